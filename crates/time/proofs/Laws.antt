@@ -1,0 +1,87 @@
+-- What floors above may use of instants and intervals. They never open a definition of this crate.
+-- Assumes nothing.
+use mathlib.Core.Path.{_≡_}
+use mathlib.Core.Bool.{true, false}
+use Prim.Native.Nat.{ℕ, _+_, _*_, _-_, _≤_, _<_, min, max}
+use native.Mathlib.Omega.{arith}
+use borrow.Author.Tests.{le-leb, lt-leb}
+use lib.Dec.{leb}
+use lib.Pow.{pow-pos}
+use Rattle.time.specs.declared.Instant.{Instant}
+use Rattle.time.specs.declared.Later.the-variants.{At, Overflow}
+use Rattle.time.specs.declared.KeepAlive.{KeepAlive}
+use Rattle.time.specs.declared.KeepAlive.the-variants.{Default, Icd}
+use Rattle.time.specs.Instants.{instant, firstInstant, lastInstant, later, neverReported}
+use Rattle.time.specs.Intervals.{backoffSecs, dueAfterSecs}
+use Rattle.time.specs.Moments.{sinceReport, retryAt, expired}
+
+-- the pause before a retry is never shorter than two seconds
+pub backoff-least : (fails longest : ℕ) → 2 ≤ backoffSecs fails longest
+unfolding backoffSecs
+backoff-least fails longest = let p = pow-pos (min (fails - 1) 15) in omega arith
+
+-- nor longer than the silence allowed, or two seconds where that is shorter
+pub backoff-most : (fails longest : ℕ) → backoffSecs fails longest ≤ max longest 2
+unfolding backoffSecs
+backoff-most fails longest = omega arith
+
+-- a report is due no later than the maximum interval runs out
+pub due-most : (kind : KeepAlive) (longest : ℕ) → dueAfterSecs kind longest ≤ longest
+unfolding dueAfterSecs
+due-most Default longest = omega arith
+due-most Icd longest = omega arith
+
+-- and not at once, where the maximum interval is a second or more
+pub due-least : (kind : KeepAlive) (longest : ℕ) → 1 ≤ longest → 1 ≤ dueAfterSecs kind longest
+unfolding dueAfterSecs
+due-least Default longest h = omega arith
+due-least Icd longest h = omega arith
+
+module _ (from : Instant) (secs : ℕ) (within : from .ms + secs * 1000 ≤ lastInstant .ms) where
+  -- up to the last instant a sum is the plain sum
+  pub later-within : later from secs ≡ At (instant (from .ms + secs * 1000))
+  unfolding later
+  later-within = rw (le-leb _ _ within, later)
+
+  -- the gate and the due instant of a subscription that has reported
+  pub since-within : neverReported from ≡ false → sinceReport from secs ≡ instant (from .ms + secs * 1000)
+  unfolding sinceReport
+  since-within h = rw (h, later-within, sinceReport)
+
+  -- a subscription expires at that sum
+  pub expired-within : (now : Instant) → expired from secs now ≡ leb (from .ms + secs * 1000) (now .ms)
+  unfolding expired
+  expired-within now = rw later-within
+
+module _ (from : Instant) (secs : ℕ) (past : lastInstant .ms < from .ms + secs * 1000) where
+  -- past the last instant there is no sum
+  pub later-past : later from secs ≡ Overflow
+  unfolding later
+  later-past = rw (lt-leb _ _ past, later)
+
+  -- there the gate is open and the report due
+  pub since-past : neverReported from ≡ false → sinceReport from secs ≡ firstInstant
+  unfolding sinceReport
+  since-past h = rw (h, later-past, sinceReport)
+
+  -- and the subscription does not expire
+  pub expired-past : (now : Instant) → expired from secs now ≡ false
+  unfolding expired
+  expired-past now = rw later-past
+
+-- the gate of a subscription that has never reported is open, and its report due
+pub since-never : (from : Instant) (secs : ℕ) → neverReported from ≡ true → sinceReport from secs ≡ firstInstant
+unfolding sinceReport
+since-never from secs h = rw (h, sinceReport)
+
+-- a retry waits for the pause
+pub retry-within : (opened : Instant) (fails longest : ℕ) → opened .ms + backoffSecs fails longest * 1000 ≤ lastInstant .ms
+    → retryAt opened fails longest ≡ instant (opened .ms + backoffSecs fails longest * 1000)
+unfolding retryAt
+retry-within opened fails longest h = rw (later-within opened (backoffSecs fails longest) h)
+
+-- or, where that is past the last instant, until the last instant
+pub retry-past : (opened : Instant) (fails longest : ℕ) → lastInstant .ms < opened .ms + backoffSecs fails longest * 1000
+    → retryAt opened fails longest ≡ lastInstant
+unfolding retryAt
+retry-past opened fails longest h = rw (later-past opened (backoffSecs fails longest) h)
