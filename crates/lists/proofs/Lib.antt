@@ -1,0 +1,4 @@
+pub mod Bools
+pub mod Searches
+pub mod Removals
+pub mod Arrays
