@@ -1,15 +1,15 @@
 -- The same searches and removals in an array of which the first places are held: one turn of a loop each.
 -- Assumes nothing.
-use mathlib.Core.Path.{_≡_, refl, sym, ap, _∙_}
+use mathlib.Core.Path.{_≡_, refl, ap}
 use mathlib.Core.Bool.{Bool, true, false}
-use mathlib.Core.List.{List, [], _∷_, _++_, append-nil}
+use mathlib.Core.List.{List, [], _∷_, append-nil}
 use Prim.Native.Nat.{ℕ, zero, suc, _+_, _-_, _≤_, _<_}
 use native.Mathlib.Omega.{arith}
 use native.Mathlib.Numerals.{add-one}
 use native.Mathlib.Nat.{le-of-suc-le-suc, not-suc-le-zero}
-use lib.ListN.{length, take, drop, getD, set, length-set}
+use lib.ListN.{length, take, getD, set}
 use lib.Seq.{slice, slice-cons, slice-empty, append-snoc, take-suc, take-set-le, length-take-le}
-use Rattle.lists.specs.Search.{one, some, count, first}
+use Rattle.lists.specs.Search.{one, count, first}
 use Rattle.lists.specs.Removal.{lastOf, initOf, refilled, sweepFor, sweep, scanned}
 
 module _ {A : Type 0} where
@@ -55,9 +55,6 @@ module _ {A : Type 0} where
       rw (hole-filled i (n - 1) l d (omega arith) (omega arith), add-one, ← e)
 
   module _ (p : A → Bool) (i n : ℕ) (l : List A) (d : A) (room : n ≤ length l) where
-    pub some-next : i < n → some p (slice i n l) ≡ (some p (getD l i d ∷ slice (i + 1) n l))
-    some-next h = rw (slice-next i n l d h room)
-
     pub count-next : i < n → count p (slice i n l) ≡ one (p (getD l i d)) + count p (slice (i + 1) n l)
     unfolding count
     count-next h = rw (slice-next i n l d h room, count)
@@ -69,6 +66,14 @@ module _ {A : Type 0} where
     pub first-next : i < n → p (getD l i d) ≡ false → first p (slice i n l) ≡ suc (first p (slice (i + 1) n l))
     unfolding first
     first-next h e = rw (slice-next i n l d h room, e, first)
+
+    pub first-done : i ≤ n → n ≤ i → first p (slice i n l) ≡ 0
+    unfolding first
+    first-done h k = rw (slice-done i n l h k)
+
+    pub count-done : i ≤ n → n ≤ i → count p (slice i n l) ≡ 0
+    unfolding count
+    count-done h k = rw (slice-done i n l h k)
 
     pub scan-out : i < n → p (getD l i d) ≡ true → scanned p i n l ≡ scanned p i (n - 1) (set l i (getD l (n - 1) d))
     unfolding scanned sweepFor

@@ -1,8 +1,8 @@
 -- Laws of swap removal: what goes, what stays, and how many.
 -- Assumes nothing.
-use mathlib.Core.Path.{_≡_, refl, sym, ap, _∙_}
+use mathlib.Core.Path.{_≡_, refl, ap}
 use mathlib.Core.Bool.{Bool, true, false, _||_}
-use mathlib.Core.List.{List, [], _∷_, _++_}
+use mathlib.Core.List.{List, [], _∷_}
 use mathlib.Core.Logic.{⊎-elim}
 use Prim.Native.Nat.{ℕ, zero, suc, _+_, _≤_}
 use native.Mathlib.Omega.{arith}
@@ -10,7 +10,7 @@ use native.Mathlib.Nat.{le-of-suc-le-suc, not-suc-le-zero, le-refl}
 use lib.ListN.{length}
 use Rattle.lists.specs.Search.{one, some, count}
 use Rattle.lists.specs.Removal.{lastOf, initOf, refilled, sweepFor, sweep}
-use Rattle.lists.proofs.Bools.{split, clash, or-either, or-left, or-right, or-neither, not-so}
+use Rattle.lists.proofs.Bools.{split, clash, or-either, or-left, or-right}
 
 module _ {A : Type 0} where
   -- a hole that the last element fills loses none

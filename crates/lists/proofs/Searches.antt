@@ -1,17 +1,17 @@
 -- Laws of searching: what a search finds in a list that was put together, and the first one by its place.
 -- Assumes nothing.
 use mathlib.Core.Path.{_≡_, refl, sym, ap, _∙_}
-use mathlib.Core.Bool.{Bool, true, false, cond, _||_, or-assoc, or-false}
+use mathlib.Core.Bool.{Bool, true, false, _||_, or-assoc}
 use mathlib.Core.List.{List, [], _∷_, _++_}
 use mathlib.Core.Logic.{⊎-elim}
-use Prim.Native.Nat.{ℕ, zero, suc, _+_, _≤_, _<_}
+use Prim.Native.Nat.{suc, _+_, _<_}
 use native.Mathlib.Omega.{arith}
 use native.Mathlib.Nat.{le-of-suc-le-suc, not-suc-le-zero}
-use borrow.Author.Tests.{lt-ltb, ltb-true}
+use borrow.Author.Tests.{lt-ltb}
 use lib.Dec.{ltb, leb·suc-suc}
 use lib.ListN.{length, getD, set}
-use Rattle.lists.specs.Search.{one, some, count, first, changeFirst}
-use Rattle.lists.proofs.Bools.{split, clash, or-either, or-left, or-right}
+use Rattle.lists.specs.Search.{some, first, changeFirst}
+use Rattle.lists.proofs.Bools.{split, or-either, or-left, or-right}
 
 module _ {A : Type 0} where
   -- there is one in two joined lists where there is one in either

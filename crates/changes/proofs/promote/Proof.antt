@@ -1,0 +1,31 @@
+-- `promote` meets its contract. It has room for the coarser entry, since at least two entries went.
+-- Assumes nothing.
+use Prim.Native.Nat.{_-_}
+use native.Mathlib.Omega.{arith}
+use borrow.Author.Needs.{needs}
+use Rattle.changes.specs.Logs.{entriesOf}
+use Rattle.changes.specs.Notes.{folded}
+use Rattle.changes.proofs.Groups.{swept-room}
+use Rattle.changes.proofs.Steps.{full, holds-as, entries-length}
+use Rattle.changes.proofs.promote.Statement.{statement}
+use Rattle.changes.proofs.promote.Tie as tie
+
+newest-of-requires : tie.Need-newest-of-requires
+newest-of-requires c κs = search needs
+
+swept-requires : tie.Need-swept-requires
+swept-requires c κs = search needs
+
+push-requires : tie.Need-push-requires
+push-requires c κs =
+    let log = c .before .before .args .log in
+    let is = entries-length log (full _ (log .entries) (c .before .before .good .0 .1 .1 .0 .1 .0 .1)) (omega arith) in
+    omega (arith, swept-room (entriesOf log) (c .before .before .args .by) (omega arith) (c .before .before .pre .1), c .swept .ensures .counts)
+
+returns : tie.Need-returns
+unfolding folded
+returns c =
+    holds-as (c .push .ensures) (rw (c .before .swept .ensures .lives, c .before .before .newest-of .ensures))
+
+pub promote-spec : {M : Type 1} → statement M
+promote-spec = tie.close (tie.spec newest-of-requires swept-requires push-requires returns)
