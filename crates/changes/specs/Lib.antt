@@ -1,3 +1,5 @@
 pub mod Paths
 pub mod Notes
 pub mod Logs
+pub mod Reach
+pub mod Numbers

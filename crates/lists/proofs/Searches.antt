@@ -1,9 +1,9 @@
 -- Laws of searching: what a search finds in a list that was put together, and the first one by its place.
 -- Assumes nothing.
 use mathlib.Core.Path.{_≡_, refl, sym, ap, _∙_}
-use mathlib.Core.Bool.{Bool, true, false, _||_, or-assoc}
+use mathlib.Core.Bool.{not, _&&_, Bool, true, false, _||_, or-assoc}
 use mathlib.Core.List.{List, [], _∷_, _++_}
-use mathlib.Core.Logic.{⊎-elim}
+use mathlib.Core.Logic.{_⊎_, inl, inr, ⊎-elim}
 use Prim.Native.Nat.{suc, _+_, _<_}
 use native.Mathlib.Omega.{arith}
 use native.Mathlib.Nat.{le-of-suc-le-suc, not-suc-le-zero}
@@ -11,7 +11,7 @@ use borrow.Author.Tests.{lt-ltb}
 use lib.Dec.{ltb, leb·suc-suc}
 use lib.ListN.{length, getD, set}
 use Rattle.lists.specs.Search.{some, first, changeFirst}
-use Rattle.lists.proofs.Bools.{split, or-either, or-left, or-right}
+use Rattle.lists.proofs.Bools.{and-true, clash, split, or-either, or-left, or-right}
 
 module _ {A : Type 0} where
   -- there is one in two joined lists where there is one in either
@@ -33,6 +33,40 @@ module _ {A : Type 0} where
   some-weaken p q [] f h = h
   some-weaken p q (x ∷ xs) f h =
       ⊎-elim (λ e. or-left (some q xs) (f x e)) (λ e. or-right (q x) (some-weaken p q xs f e)) (or-either (p x) (some p xs) h)
+
+  -- what every element that p holds of tells is told where there is one
+  pub some-tells : {C : Type 0} (p : A → Bool) (l : List A) → ((x : A) → p x ≡ true → C) → some p l ≡ true → C
+  unfolding some
+  some-tells p [] f h = absurd (clash h refl)
+  some-tells p (x ∷ xs) f h = ⊎-elim (λ e. f x e) (λ e. some-tells p xs f e) (or-either (p x) (some p xs) h)
+
+  -- one that p holds of is one that q holds of too, or one that q does not hold of
+  pub some-by : (p q : A → Bool) (l : List A) → some p l ≡ true
+      → (some (λ x. p x && q x) l ≡ true) ⊎ (some (λ x. p x && not (q x)) l ≡ true)
+  unfolding some
+  some-by p q [] h = absurd (clash h refl)
+  some-by p q (x ∷ xs) h =
+      ⊎-elim
+      (λ e. split (q x)
+      (λ t. inl (or-left (some (λ x. p x && q x) xs) (and-true e t)))
+      (λ t. inr (or-left (some (λ x. p x && not (q x)) xs) (and-true e (ap not t)))))
+      (λ e. ⊎-elim (λ t. inl (or-right (p x && q x) t)) (λ t. inr (or-right (p x && not (q x)) t)) (some-by p q xs e))
+      (or-either (p x) (some p xs) h)
+
+  -- a change that never brings q about leaves it to what was there
+  pub some-unchanged : (p q : A → Bool) (f : A → A) (l : List A) → ((x : A) → q (f x) ≡ false) → some q (changeFirst p f l) ≡ true
+      → some q l ≡ true
+  unfolding some changeFirst
+  some-unchanged p q f [] k h = h
+  some-unchanged p q f (x ∷ xs) k h =
+      split (p x)
+      (λ t. let w = rw (t, changeFirst) at h in
+      ⊎-elim (λ e. absurd (clash e (k x))) (λ e. or-right (q x) e) (or-either (q (f x)) (some q xs) w))
+      (λ t. let w = rw (t, changeFirst) at h in
+      ⊎-elim
+      (λ e. or-left (some q xs) e)
+      (λ e. or-right (q x) (some-unchanged p q f xs k e))
+      (or-either (q x) (some q (changeFirst p f xs)) w))
 
   -- a change of the first that p holds of keeps q where the change keeps it
   pub some-changed : (p q : A → Bool) (f : A → A) (l : List A) → ((x : A) → q x ≡ true → q (f x) ≡ true) → some q l ≡ true

@@ -1,0 +1,332 @@
+-- What whoever holds a log may rely on, in the words of `specs/Reach`. Floors above cite these and never open a definition of this crate.
+-- Assumes nothing.
+use mathlib.Core.Path.{_≡_, refl, sym, ap, _∙_}
+use mathlib.Core.Bool.{true, false, not}
+use mathlib.Core.List.{List, []}
+use Prim.Native.Nat.{ℕ, _+_, _-_, _≤_, _<_}
+use native.Mathlib.Omega.{arith}
+use native.Mathlib.Nat.{le-refl}
+use borrow.Author.Tests.{le-leb, leb-true, lt-leb, lt-ltb, ltb-true, eq-eqb, ne-eqb}
+use lib.Arith.{lt-of-le-ne}
+use lib.Dec.{eqb, leb, ltb}
+use lib.ListN.{length, length-take}
+use lib.Seq.{take-append-seam}
+use Rattle.refusal.specs.declared.Refusal.the-variants.{NotWellKept}
+use Rattle.changes.specs.declared.ChangedAttr.{ChangedAttr}
+use Rattle.changes.specs.declared.ChangedAttrs.{ChangedAttrs}
+use Rattle.changes.specs.declared.NoteAnswer.the-variants as note
+use Rattle.changes.specs.declared.Change.the-variants as change
+use Rattle.changes.specs.declared.Told.the-variants as told
+use Rattle.changes.specs.declared.Mark.the-variants as mark
+use Rattle.lists.specs.Search.{some}
+use Rattle.lists.specs.Removal.{sweep}
+use Rattle.changes.specs.Paths.{entry, covers, over, under, upTo, above, since}
+use Rattle.changes.specs.Notes.{entered}
+use Rattle.changes.specs.Logs.{entriesOf, holding, kept, freshLog, identityAfter, watermarkOf, noteOf, afterNote, noted, afterPurge, purged, cleared, marked, anySince, changedSince, anyTold, pathTold}
+use Rattle.changes.specs.Reach.{carries, reaches, reached, covered, Bounded, Tidy, Came, fresh, note, purge, clear}
+use Rattle.lists.proofs.Bools.{split, and-both, and-true, not-so}
+use Rattle.lists.proofs.Searches.{some-weaken}
+use Rattle.lists.proofs.Removals.{length-swept, stays, was-there}
+use Rattle.changes.proofs.Cases.{kept-fits, kept-next}
+use Rattle.changes.proofs.Covering.{matches-covers, covers-trans, covers-self}
+use Rattle.changes.proofs.Entering.{entered-has, entered-keeps, entered-old, entered-fits}
+
+-- ---- a log and its entries
+
+-- the entries of a log that holds l are l
+pub entries-held : (l : List ChangedAttr) (k : ℕ) → entriesOf (holding l k) ≡ l
+unfolding holding
+entries-held l k = take-append-seam l _
+
+-- and it goes on from the identity it was given
+pub next-held : (l : List ChangedAttr) (k : ℕ) → holding l k .next ≡ k
+unfolding holding
+next-held l k = refl
+
+-- a log that holds l is settled by it
+pub held-tidy : (l : List ChangedAttr) (k : ℕ) → Tidy (holding l k)
+held-tidy l k =
+    sym (ap (λ m. holding m k) (entries-held l k)) ∙ ap (holding (entriesOf (holding l k))) (sym (next-held l k))
+
+held-kept : (l : List ChangedAttr) (k : ℕ) → length l ≤ 16 → (k ≡ 0 → ⊥) → kept (holding l k) ≡ true
+unfolding holding kept
+held-kept l k fits on = and-true (le-leb (length l) 16 fits) (ap not (ne-eqb k 0 on))
+
+entries-fit : (g : ChangedAttrs) → kept g ≡ true → length (entriesOf g) ≤ 16
+entries-fit g h = omega (arith, length-take (g .len) (g .entries), kept-fits g h)
+
+pub fresh-kept : kept freshLog ≡ true
+unfolding kept
+fresh-kept = refl
+
+pub fresh-tidy : Tidy freshLog
+unfolding holding
+fresh-tidy = refl
+
+-- of a well-kept log the watermark is below the next identity
+pub watermark-below : (g : ChangedAttrs) → kept g ≡ true → watermarkOf g < g .next
+watermark-below g h =
+    let on : 0 < g .next = lt-of-le-ne (omega arith) (λ z. kept-next g h (sym z)) in
+    omega arith
+
+-- ---- the answers: a log that is not well kept is refused and handed back, another is served
+
+module _ (g : ChangedAttrs) (h : kept g ≡ false) where
+  pub note-refused : (e c a : ℕ) → noted g e c a ≡ record { answer = note.Refused NotWellKept; log = g }
+  unfolding noted
+  note-refused e c a = rw (h, noted)
+
+  pub purge-refused : (t : ℕ) → purged g t ≡ record { answer = change.Refused NotWellKept; log = g }
+  unfolding purged
+  purge-refused t = rw (h, purged)
+
+  pub clear-refused : cleared g ≡ record { answer = change.Refused NotWellKept; log = g }
+  unfolding cleared
+  clear-refused = rw (h, cleared)
+
+  pub mark-refused : marked g ≡ mark.Refused NotWellKept
+  unfolding marked
+  mark-refused = rw (h, marked)
+
+  pub any-refused : (s : ℕ) → anyTold g s ≡ told.Refused NotWellKept
+  unfolding anyTold
+  any-refused s = rw (h, anyTold)
+
+  pub path-refused : (e c a s : ℕ) → pathTold g e c a s ≡ told.Refused NotWellKept
+  unfolding pathTold
+  path-refused e c a s = rw (h, pathTold)
+
+module _ (g : ChangedAttrs) (h : kept g ≡ true) where
+  pub note-answer : (e c a : ℕ) → noted g e c a ≡ record { answer = note.Entered (record { identity = g .next }); log = afterNote g e c a }
+  unfolding noted
+  note-answer e c a = rw (h, noted)
+
+  pub purge-answer : (t : ℕ) → purged g t ≡ record { answer = change.Done; log = afterPurge g t }
+  unfolding purged
+  purge-answer t = rw (h, purged)
+
+  pub clear-answer : cleared g ≡ record { answer = change.Done; log = holding [] (g .next) }
+  unfolding cleared holding
+  clear-answer = rw (h, cleared)
+
+  pub mark-answer : marked g ≡ mark.At (watermarkOf g)
+  unfolding marked
+  mark-answer = rw (h, marked)
+
+  pub any-answer : (s : ℕ) → anyTold g s ≡ told.Is (anySince g s)
+  unfolding anyTold
+  any-answer s = rw (h, anyTold)
+
+  pub path-answer : (e c a s : ℕ) → pathTold g e c a s ≡ told.Is (changedSince g e c a s)
+  unfolding pathTold
+  path-answer e c a s = rw (h, pathTold)
+
+-- ---- identities
+
+pub after-last : identityAfter 18446744073709551615 ≡ 1
+unfolding identityAfter
+after-last = refl
+
+pub after-others : (k : ℕ) → k < 18446744073709551615 → identityAfter k ≡ k + 1
+unfolding identityAfter
+after-others k h = rw (ne-eqb k 18446744073709551615 (λ e. absurd (omega arith)), identityAfter)
+
+after-some : (k : ℕ) → identityAfter k ≡ 0 → ⊥
+unfolding identityAfter
+after-some k e =
+    split (eqb k 18446744073709551615)
+    (λ t. let w = rw (t, identityAfter) at e in omega arith)
+    (λ t. let w = rw (t, identityAfter) at e in omega arith)
+
+-- ---- a note
+
+module _ (g : ChangedAttrs) (h : kept g ≡ true) (e c a : ℕ) where
+  noted-log : noted g e c a .log ≡ afterNote g e c a
+  noted-log = ap (λ r. r .log) (note-answer g h e c a)
+
+  noted-entries : entriesOf (noted g e c a .log) ≡ entered (noteOf g e c a) (entriesOf g)
+  noted-entries = ap entriesOf noted-log ∙ entries-held (entered (noteOf g e c a) (entriesOf g)) (identityAfter (g .next))
+
+  -- the next identity is the one after
+  pub note-next : noted g e c a .log .next ≡ identityAfter (g .next)
+  note-next = ap (λ r. r .next) noted-log ∙ next-held (entered (noteOf g e c a) (entriesOf g)) (identityAfter (g .next))
+
+  -- it grows by one
+  pub note-grows : g .next < 18446744073709551615 → noted g e c a .log .next ≡ g .next + 1
+  note-grows low = note-next ∙ after-others (g .next) low
+
+  -- the log stays well kept, with at most sixteen entries
+  pub note-kept : kept (noted g e c a .log) ≡ true
+  note-kept =
+      rw noted-log
+      (held-kept (entered (noteOf g e c a) (entriesOf g)) (identityAfter (g .next))
+      (entered-fits (noteOf g e c a) (entriesOf g) (entries-fit g h)) (after-some (g .next)))
+
+  -- and settled by its entries
+  pub note-tidy : Tidy (noted g e c a .log)
+  note-tidy = rw noted-log (held-tidy (entered (noteOf g e c a) (entriesOf g)) (identityAfter (g .next)))
+
+  -- some entry covers the note with its identity
+  pub note-carried : some (carries (noteOf g e c a) (g .next)) (entriesOf (noted g e c a .log)) ≡ true
+  unfolding carries covers
+  note-carried =
+      rw noted-entries
+      (entered-has (noteOf g e c a) (carries (noteOf g e c a) (g .next))
+      (λ x w. and-true w (eq-eqb (g .next) (g .next) refl)) (entriesOf g))
+
+  -- so does some entry for every path under the note
+  pub note-new : (q : ChangedAttr) → covers (noteOf g e c a) q ≡ true → reached (noted g e c a .log) q (g .next) ≡ true
+  unfolding reaches covers
+  note-new q u =
+      rw noted-entries
+      (entered-has (noteOf g e c a) (reaches q (g .next))
+      (λ x w. and-true (covers-trans x (noteOf g e c a) q w u) (le-leb (g .next) (g .next) (le-refl (g .next)))) (entriesOf g))
+
+  -- what some entry stood for with identity k or a later one, some entry still does
+  pub note-keeps : (q : ChangedAttr) (k : ℕ) → k ≤ g .next → reached g q k ≡ true → reached (noted g e c a .log) q k ≡ true
+  note-keeps q k late r = rw noted-entries (entered-keeps (noteOf g e c a) q k late (entriesOf g) r)
+
+  -- no identity is above the watermark, while identities have not begun again
+  pub note-bounded : g .next < 18446744073709551615 → Bounded g → Bounded (noted g e c a .log)
+  unfolding above
+  note-bounded low b =
+      rw (noted-entries, note-grows low)
+      (not-so
+      (entered-old (noteOf g e c a) (g .next + 1 - 1) (omega arith) (entriesOf g))
+      (not-so
+      (some-weaken (above (g .next + 1 - 1)) (above (watermarkOf g)) (entriesOf g)
+      (λ x w. lt-ltb (watermarkOf g) (x .identity) (let t = ltb-true (g .next + 1 - 1) (x .identity) w in omega arith)))
+      b))
+
+-- ---- a purge
+
+module _ (g : ChangedAttrs) (t : ℕ) where
+  -- what holds of the log as it is, and with the old entries removed, holds after a purge
+  purged-by : (P : ChangedAttrs → Type 0) → P g → P (holding (sweep (upTo t) (entriesOf g)) (g .next)) → P (purged g t .log)
+  unfolding purged
+  purged-by P same swept =
+      split (kept g)
+      (λ k. split (eqb t 0) (λ z. rw (k, z, purged) same) (λ z. rw (k, z, purged) swept))
+      (λ k. rw (k, purged) same)
+
+  pub purge-next : purged g t .log .next ≡ g .next
+  purge-next = purged-by (λ r. r .next ≡ g .next) refl (next-held (sweep (upTo t) (entriesOf g)) (g .next))
+
+  pub purge-kept : kept g ≡ true → kept (purged g t .log) ≡ true
+  purge-kept h =
+      purged-by (λ r. kept r ≡ true) h
+      (held-kept (sweep (upTo t) (entriesOf g)) (g .next) (omega (arith, length-swept (upTo t) (entriesOf g), entries-fit g h)) (kept-next g h))
+
+  pub purge-tidy : Tidy g → Tidy (purged g t .log)
+  purge-tidy d = purged-by Tidy d (held-tidy (sweep (upTo t) (entriesOf g)) (g .next))
+
+  -- what is stood for with an identity above the threshold stays so
+  pub purge-keeps : (q : ChangedAttr) (k : ℕ) → t < k → reached g q k ≡ true → reached (purged g t .log) q k ≡ true
+  unfolding reaches upTo
+  purge-keeps q k low r =
+      purged-by (λ m. reached m q k ≡ true) r
+      (rw (entries-held (sweep (upTo t) (entriesOf g)) (g .next))
+      (stays (upTo t) (reaches q k) (entriesOf g)
+      (λ x w. lt-leb (x .identity) t (let i = leb-true k (x .identity) (and-both (covers x q) (leb k (x .identity)) w .1) in omega arith)) r))
+
+  pub purge-bounded : Bounded g → Bounded (purged g t .log)
+  purge-bounded b =
+      purged-by Bounded b
+      (rw (entries-held (sweep (upTo t) (entriesOf g)) (g .next), next-held (sweep (upTo t) (entriesOf g)) (g .next))
+      (not-so (was-there (upTo t) (above (watermarkOf g)) (entriesOf g)) b))
+
+-- ---- emptying
+
+module _ (g : ChangedAttrs) where
+  cleared-by : (P : ChangedAttrs → Type 0) → P g → P (holding [] (g .next)) → P (cleared g .log)
+  unfolding cleared holding
+  cleared-by P same empty = split (kept g) (λ k. rw (k, cleared) empty) (λ k. rw (k, cleared) same)
+
+  pub clear-next : cleared g .log .next ≡ g .next
+  clear-next = cleared-by (λ r. r .next ≡ g .next) refl (next-held [] (g .next))
+
+  pub clear-kept : kept g ≡ true → kept (cleared g .log) ≡ true
+  clear-kept h = cleared-by (λ r. kept r ≡ true) h (held-kept [] (g .next) (omega arith) (kept-next g h))
+
+  pub clear-tidy : Tidy g → Tidy (cleared g .log)
+  clear-tidy d = cleared-by Tidy d (held-tidy [] (g .next))
+
+  pub clear-bounded : Bounded g → Bounded (cleared g .log)
+  unfolding some
+  clear-bounded b = cleared-by Bounded b (rw (entries-held [] (g .next)))
+
+-- ---- the questions
+
+module _ (g : ChangedAttrs) (q : ChangedAttr) (k s : ℕ) (low : s < k) (r : reached g q k ≡ true) where
+  newer : (x : ChangedAttr) → reaches q k x ≡ true → ltb s (x .identity) ≡ true
+  unfolding reaches
+  newer x w = lt-ltb s (x .identity) (let i = leb-true k (x .identity) (and-both (covers x q) (leb k (x .identity)) w .1) in omega arith)
+
+  -- what is stood for with identity k is a change since every earlier watermark
+  pub reached-any : anySince g s ≡ true
+  unfolding above
+  reached-any = some-weaken (reaches q k) (above s) (entriesOf g) newer r
+
+  -- and every path under it has changed since then
+  pub reached-changed : (e c a : ℕ) → covers q (entry e c a s) ≡ true → changedSince g e c a s ≡ true
+  unfolding since reaches
+  reached-changed e c a u =
+      some-weaken (reaches q k) (since (entry e c a s)) (entriesOf g)
+      (λ x w. and-true (newer x w)
+      (matches-covers x (entry e c a s) ∙ covers-trans x q (entry e c a s) (and-both (covers x q) (leb k (x .identity)) w .0) u)) r
+
+-- to be stood for with some identity is to be covered
+reached-covered : (q : ChangedAttr) (k : ℕ) (g : ChangedAttrs) → reached g q k ≡ true → covered g q ≡ true
+unfolding reaches
+reached-covered q k g r = some-weaken (reaches q k) (λ x. covers x q) (entriesOf g) (λ x w. and-both (covers x q) (leb k (x .identity)) w .0) r
+
+covered-reached : (q : ChangedAttr) (g : ChangedAttrs) → covered g q ≡ true → reached g q 0 ≡ true
+unfolding reaches
+covered-reached q g r =
+    some-weaken (λ x. covers x q) (reaches q 0) (entriesOf g) (λ x w. and-true w (le-leb 0 (x .identity) (omega arith))) r
+
+-- ---- logs that come from a fresh one
+
+pub came-kept : {n : ℕ} {g : ChangedAttrs} → Came n g → kept g ≡ true
+came-kept fresh = fresh-kept
+came-kept (note {n} {g} e c a w) = note-kept g (came-kept w) e c a
+came-kept (purge {n} {g} t w) = purge-kept g t (came-kept w)
+came-kept (clear {n} {g} w) = clear-kept g (came-kept w)
+
+pub came-tidy : {n : ℕ} {g : ChangedAttrs} → Came n g → Tidy g
+came-tidy fresh = fresh-tidy
+came-tidy (note {n} {g} e c a w) = note-tidy g (came-kept w) e c a
+came-tidy (purge {n} {g} t w) = purge-tidy g t (came-tidy w)
+came-tidy (clear {n} {g} w) = clear-tidy g (came-tidy w)
+
+-- with fewer than 2^64 − 1 notes the next identity is one more than their number
+pub came-next : {n : ℕ} {g : ChangedAttrs} → Came n g → n < 18446744073709551615 → g .next ≡ n + 1
+came-next fresh h = refl
+came-next (note {n} {g} e c a w) h =
+    let is : g .next ≡ n + 1 = came-next w (omega arith) in
+    note-grows g (came-kept w) e c a (omega arith) ∙ omega arith
+came-next (purge {n} {g} t w) h = purge-next g t ∙ came-next w h
+came-next (clear {n} {g} w) h = clear-next g ∙ came-next w h
+
+-- and no entry is newer than the watermark
+pub came-bounded : {n : ℕ} {g : ChangedAttrs} → Came n g → n < 18446744073709551615 → Bounded g
+unfolding some
+came-bounded fresh h = refl
+came-bounded (note {n} {g} e c a w) h =
+    let is : g .next ≡ n + 1 = came-next w (omega arith) in
+    note-bounded g (came-kept w) e c a (omega arith) (came-bounded w (omega arith))
+came-bounded (purge {n} {g} t w) h = purge-bounded g t (came-bounded w h)
+came-bounded (clear {n} {g} w) h = clear-bounded g (came-bounded w h)
+
+-- ---- the students' second mistake: "sixteen places can't cover a seventeenth change"
+
+-- In a log of sixteen entries none of which covers the note or is covered by it, the note is covered afterwards, and so is everything that was
+-- covered before. The hypotheses are those of the lecture; without them it holds as well.
+pub seventeenth-change : (g : ChangedAttrs) (e c a : ℕ) → kept g ≡ true → length (entriesOf g) ≡ 16
+    → some (over (noteOf g e c a)) (entriesOf g) ≡ false → some (under (noteOf g e c a)) (entriesOf g) ≡ false
+    → (covered (noted g e c a .log) (noteOf g e c a) ≡ true)
+    × ((q : ChangedAttr) → covered g q ≡ true → covered (noted g e c a .log) q ≡ true)
+seventeenth-change g e c a h full none-over none-under = (
+  reached-covered (noteOf g e c a) (g .next) (noted g e c a .log) (note-new g h e c a (noteOf g e c a) (covers-self (noteOf g e c a))),
+  (λ q was. reached-covered q 0 (noted g e c a .log) (note-keeps g h e c a q 0 (omega arith) (covered-reached q g was))),
+)
