@@ -1,0 +1,78 @@
+// Document 01's marked examples P1 to P10 as the compiled code answers them, a line each. That the definitions give these values is proved in
+// crate rules; here the code itself is run, since the proofs do not cover the compiler's back end.
+ghost use Prim.Native.Nat.{_<_};
+use changes::ChangedAttr;
+use changes::ChangedAttrs;
+use libc::STDOUT_FILENO;
+use time::KeepAlive;
+
+fn main() {
+    value(b"P1", time::retry_backoff_secs(1, 60));
+    value(b"P2", time::retry_backoff_secs(6, 60));
+    value(b"P3", time::retry_backoff_secs(255, 65535));
+    value(b"P4", time::retry_backoff_secs(3, 0));
+    value(b"P5", KeepAlive::Default.due_after_secs(61));
+    value(b"P6", KeepAlive::Icd.due_after_secs(5));
+    value(b"P7", time::subscription_max_int_secs(60, 55, 0, 65535));
+    log(b"P8", sixteen(Row::Attributes).note(2, 6, 0).log);
+    log(b"P9", sixteen(Row::Clusters).note(1, 17, 0).log);
+    log(b"P10", sixteen(Row::Endpoints).note(17, 6, 0).log);
+}
+
+// Which field tells the sixteen notes of an example apart.
+enum Row {
+    Attributes,
+    Clusters,
+    Endpoints,
+}
+
+// A fresh log after an example's sixteen notes.
+fn sixteen(row: Row) -> ChangedAttrs {
+    let mut log = ChangedAttrs::new();
+    for i in 0..16u16 {
+        log = noted(log, row, i);
+    }
+    log
+}
+
+fn noted(log: ChangedAttrs, row: Row, i: u16) -> ChangedAttrs
+    requires { ⌜ i < 16 ⌝ }
+{
+    match row {
+        Row::Attributes => log.note(1, 6, i as u32).log,
+        Row::Clusters => log.note(1, i as u32 + 1, 0).log,
+        Row::Endpoints => log.note(i + 1, 6, 0).log,
+    }
+}
+
+// The example's name and its value.
+fn value(name: &[u8], seconds: u16) {
+    io::write_all(STDOUT_FILENO, name);
+    number(seconds as u64);
+    io::write_all(STDOUT_FILENO, b"\n");
+}
+
+// The example's name and the log's entries, each as endpoint, cluster, attribute and identity.
+fn log(name: &[u8], log: ChangedAttrs) {
+    io::write_all(STDOUT_FILENO, name);
+    let n = log.len;
+    for i in 0..16usize {
+        if i < n {
+            entry(log.entries[i]);
+        }
+    }
+    io::write_all(STDOUT_FILENO, b"\n");
+}
+
+fn entry(x: ChangedAttr) {
+    io::write_all(STDOUT_FILENO, b" :");
+    number(x.endpoint as u64);
+    number(x.cluster as u64);
+    number(x.attr as u64);
+    number(x.identity);
+}
+
+fn number(n: u64) {
+    io::write_all(STDOUT_FILENO, b" ");
+    io::print_decimal(STDOUT_FILENO, n);
+}
