@@ -1,3 +1,4 @@
 pub mod Paths
 pub mod Notes
 pub mod Logs
+pub mod Lent

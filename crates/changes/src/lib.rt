@@ -9,9 +9,11 @@ ghost use Rattle.lists.specs.Removal.{sweep};
 ghost use Rattle.changes.specs.Paths.{blank, allWild, withIdentity, fieldCovers, fieldMatches, covers, matches, under, holds};
 ghost use Rattle.changes.specs.Notes.{newest, placed, candidate, groupOf, larger, largest, folded, crowded, entered};
 ghost use Rattle.changes.specs.Logs.{entriesOf, Holds, holding, kept, identityAfter, freshLog, noted, purged, cleared, marked, anyTold, pathTold};
+ghost use Rattle.changes.specs.Lent.{lentAnswer, lent, lentNote};
 use refusal::Refusal;
 
 // One entry: a path, and the identity of its latest change. A wild field stands for every value of it.
+#[repr(C)]
 pub struct ChangedAttr {
     pub identity: u64,
     pub cluster: u32,
@@ -20,6 +22,7 @@ pub struct ChangedAttr {
 }
 
 // The log: its entries are the first `len` places; `next` is the identity that the next note takes.
+#[repr(C)]
 pub struct ChangedAttrs {
     pub entries: [ChangedAttr; 16],
     pub len: usize,
@@ -38,6 +41,19 @@ pub enum NoteAnswer {
 
 pub struct Noted {
     pub answer: NoteAnswer,
+    pub log: ChangedAttrs,
+}
+
+// What a lent note answers to a caller outside: document 01's number (0 for none) and the identity (0 where it was refused).
+#[repr(C)]
+pub struct LentAnswer {
+    pub identity: u64,
+    pub code: u8,
+}
+
+// What a lent note comes to: the answer, and the log that the host then holds.
+pub struct LentNote {
+    pub answer: LentAnswer,
     pub log: ChangedAttrs,
 }
 
@@ -184,6 +200,52 @@ impl ChangedAttrs {
         Changed {
             answer: Change::Refused(Refusal::NotWellKept),
             log: self,
+        }
+    }
+}
+
+// The host lends its log, and the note is entered there. A refusal leaves the log as it was.
+#[no_mangle]
+pub extern "C" fn note_lent(
+    log: &mut ChangedAttrs,
+    endpoint: u16,
+    cluster: u32,
+    attr: u32,
+) -> LentAnswer
+    ensures { λ r. ⌜ lent r (now (log .exit)) ≡ lentNote (now (log .entry)) endpoint cluster attr ⌝ }
+{
+    let after = numbered_note(*log, endpoint, cluster, attr);
+    *log = after.log;
+    after.answer
+}
+
+// The note by value, its answer in numbers.
+fn numbered_note(log: ChangedAttrs, endpoint: u16, cluster: u32, attr: u32) -> LentNote
+    ensures { λ r. ⌜ r ≡ lentNote log endpoint cluster attr ⌝ }
+{
+    let noted = log.note(endpoint, cluster, attr);
+    let answer = noted.answer;
+    let after = noted.log;
+    LentNote {
+        answer: answer.in_numbers(),
+        log: after,
+    }
+}
+
+impl NoteAnswer {
+    // No enum crosses to a caller outside: the answer's number and its identity do.
+    fn in_numbers(self) -> LentAnswer
+        ensures { λ r. ⌜ r ≡ lentAnswer self ⌝ }
+    {
+        match self {
+            NoteAnswer::Entered(entered) => LentAnswer {
+                identity: entered.identity,
+                code: 0,
+            },
+            NoteAnswer::Refused(why) => LentAnswer {
+                identity: 0,
+                code: why.number(),
+            },
         }
     }
 }
