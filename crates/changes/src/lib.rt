@@ -11,7 +11,9 @@ ghost use Rattle.changes.specs.Notes.{newest, placed, candidate, groupOf
 ghost use Rattle.changes.specs.Logs.{entriesOf, Holds, holding, kept, identityAfter, freshLog, noted, purged, cleared, marked, anyTold, pathTold};
 use refusal::Refusal;
 
-// One entry: a path, and the identity of its latest change. A wild field stands for every value of it.
+// One entry: a path, and the identity of its latest change. A wild field stands for every value of it. Its layout is C's, as the log's, so
+// that a host in another language can lend one.
+#[repr(C)]
 pub struct ChangedAttr {
     pub identity: u64,
     pub cluster: u32,
@@ -20,6 +22,7 @@ pub struct ChangedAttr {
 }
 
 // The log: its entries are the first `len` places; `next` is the identity that the next note takes.
+#[repr(C)]
 pub struct ChangedAttrs {
     pub entries: [ChangedAttr; 16],
     pub len: usize,
