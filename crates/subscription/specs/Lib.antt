@@ -1,0 +1,3 @@
+pub mod When
+pub mod Life
+pub mod Choices
