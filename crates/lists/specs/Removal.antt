@@ -1,10 +1,11 @@
 -- Swap removal from a list of any element type: the last element fills the hole. The order of what stays is not kept.
 -- Assumes nothing.
-use mathlib.Core.Bool.{Bool, true, false}
+use mathlib.Core.Bool.{Bool, true, false, cond}
 use mathlib.Core.List.{List, [], _∷_, _++_}
 use Prim.Native.Nat.{ℕ, zero, suc, _-_}
 use lib.ListN.{length, take}
 use lib.Seq.{slice}
+use Rattle.lists.specs.Search.{changeFirst}
 
 module _ {A : Type 0} where
   -- the last of x and the list
@@ -36,3 +37,13 @@ module _ {A : Type 0} where
   -- a scan under way in an array l whose first n places are held: those before i are settled, those from i on are still to be looked at
   unfoldable pub scanned : (A → Bool) → ℕ → ℕ → List A → List A
   scanned p i n l = take i l ++ sweepFor (n - i) p (slice i n l)
+
+  -- swap removal of the first element that p holds of
+  unfoldable pub takeOut : (A → Bool) → List A → List A
+  takeOut p [] = []
+  takeOut p (x ∷ xs) = elim (p x) [ true ↦ refilled xs | false ↦ x ∷ takeOut p xs ]
+
+  -- the same from a list whose newest element is its first: that one fills the hole
+  unfoldable pub takeOutNewest : (A → Bool) → List A → List A
+  takeOutNewest p [] = []
+  takeOutNewest p (x ∷ xs) = cond (p x) xs (changeFirst p (λ y. x) xs)

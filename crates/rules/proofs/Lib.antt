@@ -1,2 +1,3 @@
 pub mod Single
 pub mod Marked
+pub mod Thirteen

@@ -1,1 +1,4 @@
 pub mod Marked
+pub mod States
+pub mod Calls
+pub mod Machine

@@ -1,0 +1,58 @@
+-- The calls of document 01's table, with their arguments, and what they answer.
+-- Assumes nothing.
+use mathlib.Core.Bool.{Bool}
+use mathlib.Core.List.{List}
+use mathlib.Core.Option.{Option}
+use Prim.Native.Nat.{ℕ}
+use Rattle.refusal.specs.declared.Refusal.{Refusal}
+use Rattle.time.specs.declared.Instant.{Instant}
+use Rattle.time.specs.declared.KeepAlive.{KeepAlive}
+use Rattle.subscription.specs.declared.Choice.{Choice}
+use Rattle.subscription.specs.declared.Request.{Request}
+
+-- the settings of a report and of a round: now, the event number, the keep-alive kind and the all flag
+pub record Settings : Type 0 where
+  pub now : Instant
+  pub events : ℕ
+  pub kind : KeepAlive
+  pub all : Bool
+
+pub data Op : Type 0 where
+  -- a table of this capacity in place of the present one
+  new : (capacity : ℕ) → Op
+  add : (request : Request) (events : ℕ) (now : Instant) → Op
+  resume : (id : ℕ) (request : Request) (events : ℕ) → Op
+  note : (endpoint cluster attr : ℕ) → Op
+  report : Settings → Op
+  complete : (id outcome : ℕ) → Op
+  remove : Choice → (reason : ℕ) → Op
+  clear : Op
+  purge : Op
+  attribute : (id endpoint cluster attr : ℕ) → Op
+  sendIfEmpty : (id : ℕ) → KeepAlive → Op
+  nextInstant : (events : ℕ) → KeepAlive → Op
+  anyReportable : (now : Instant) (events : ℕ) → KeepAlive → Op
+  nextKeepAlive : Op
+  -- of a fabric, 0 where none is asked
+  statistics : (fabric : ℕ) → Op
+  hasSubscription : (fabric peer : ℕ) → Op
+  -- with the outcomes and the ids in the two lent slices
+  round : Settings → (outcomes ids : List ℕ) → Op
+
+pub data Answer : Type 0 where
+  refused : Refusal → Answer
+  -- done, and nothing to tell
+  done : Answer
+  -- a number: an id, an identity
+  number : ℕ → Answer
+  -- report: "answers Nothing", or "the id and the request number"
+  nothing : Answer
+  handed : (id rx : ℕ) → Answer
+  -- complete: kept, and "the failed flag"
+  completed : (stays failed : Bool) → Answer
+  -- note, remove and clear: does it wake; and a question: yes or no
+  yesNo : Bool → Answer
+  instant : Instant → Answer
+  keepAlive : Option Instant → Answer
+  stats : (places ofFabric established : ℕ) → Answer
+  rounded : (handOuts : ℕ) (silent : Bool) (ids : List ℕ) → Answer
