@@ -1,12 +1,12 @@
 -- What whoever holds a log may rely on, in the words of `specs/Reach`. Floors above cite these and never open a definition of this crate.
 -- Assumes nothing.
 use mathlib.Core.Path.{_≡_, refl, sym, ap, _∙_}
-use mathlib.Core.Bool.{true, false, not}
-use mathlib.Core.List.{List, []}
-use Prim.Native.Nat.{ℕ, _+_, _-_, _≤_, _<_}
+use mathlib.Core.Bool.{true, false, cond, not}
+use mathlib.Core.List.{List, [], _∷_}
+use Prim.Native.Nat.{ℕ, _+_, _-_, _≤_, _<_, max}
 use native.Mathlib.Omega.{arith}
 use native.Mathlib.Nat.{le-refl}
-use borrow.Author.Tests.{le-leb, leb-true, lt-leb, lt-ltb, ltb-true, eq-eqb, ne-eqb}
+use borrow.Author.Tests.{le-leb, leb-true, lt-leb, lt-ltb, le-ltb, ltb-true, ltb-false, eq-eqb, ne-eqb}
 use lib.Arith.{lt-of-le-ne}
 use lib.Dec.{eqb, leb, ltb}
 use lib.ListN.{length, length-take}
@@ -21,10 +21,10 @@ use Rattle.changes.specs.declared.Mark.the-variants as mark
 use Rattle.lists.specs.Search.{some}
 use Rattle.lists.specs.Removal.{sweep}
 use Rattle.changes.specs.Paths.{entry, covers, over, under, upTo, above, since}
-use Rattle.changes.specs.Notes.{entered}
-use Rattle.changes.specs.Logs.{entriesOf, holding, kept, freshLog, identityAfter, watermarkOf, noteOf, afterNote, noted, afterPurge, purged, cleared, marked, anySince, changedSince, anyTold, pathTold}
+use Rattle.changes.specs.Notes.{newest, entered}
+use Rattle.changes.specs.Logs.{entriesOf, holding, kept, freshLog, identityAfter, watermarkOf, noteOf, afterNote, noted, afterPurge, purged, cleared, marked, newestOf, newestMark, anySince, changedSince, anyTold, pathTold}
 use Rattle.changes.specs.Reach.{carries, reaches, reached, covered, Bounded, Tidy, Came, fresh, note, purge, clear}
-use Rattle.lists.proofs.Bools.{split, and-both, and-true, not-so}
+use Rattle.lists.proofs.Bools.{or-left, or-right, split, and-both, and-true, not-so}
 use Rattle.lists.proofs.Searches.{some-weaken}
 use Rattle.lists.proofs.Removals.{length-swept, stays, was-there}
 use Rattle.changes.proofs.Cases.{kept-fits, kept-next}
@@ -112,6 +112,10 @@ module _ (g : ChangedAttrs) (h : kept g ≡ true) where
   pub mark-answer : marked g ≡ mark.At (watermarkOf g)
   unfolding marked
   mark-answer = rw (h, marked)
+
+  pub newest-answer : newestMark g ≡ mark.At (newestOf g)
+  unfolding newestMark
+  newest-answer = rw (h, newestMark)
 
   pub any-answer : (s : ℕ) → anyTold g s ≡ told.Is (anySince g s)
   unfolding anyTold
@@ -274,6 +278,25 @@ module _ (g : ChangedAttrs) (q : ChangedAttr) (k s : ℕ) (low : s < k) (r : rea
       some-weaken (reaches q k) (since (entry e c a s)) (entriesOf g)
       (λ x w. and-true (newer x w)
       (matches-covers x (entry e c a s) ∙ covers-trans x q (entry e c a s) (and-both (covers x q) (leb k (x .identity)) w .0) u)) r
+
+-- something has changed since an identity exactly where the greatest identity is above it
+newest-above : (s : ℕ) (l : List ChangedAttr) → some (above s) l ≡ ltb s (newest (above 0) l)
+unfolding some newest above
+newest-above s [] = sym (le-ltb s 0 (omega arith))
+newest-above s (x ∷ xs) =
+    let n = newest (above 0) xs in
+    let ih = newest-above s xs in
+    let at : cond (ltb 0 (x .identity)) (x .identity) 0 ≡ x .identity =
+    split (ltb 0 (x .identity)) (λ t. rw t) (λ t. rw t (let z = ltb-false 0 (x .identity) t in omega arith)) in
+    split (ltb s (x .identity))
+    (λ t. or-left (some (above s) xs) t ∙ sym (lt-ltb s (max (cond (ltb 0 (x .identity)) (x .identity) 0) n) (let w = ltb-true s (x .identity) t in omega arith)))
+    (λ t. let low = ltb-false s (x .identity) t in
+    split (ltb s n)
+    (λ u. or-right (ltb s (x .identity)) (ih ∙ u) ∙ sym (lt-ltb s (max (cond (ltb 0 (x .identity)) (x .identity) 0) n) (let w = ltb-true s n u in omega arith)))
+    (λ u. rw t (ih ∙ u) ∙ sym (le-ltb s (max (cond (ltb 0 (x .identity)) (x .identity) 0) n) (let w = ltb-false s n u in omega arith))))
+
+pub newest-any : (g : ChangedAttrs) (s : ℕ) → anySince g s ≡ ltb s (newestOf g)
+newest-any g s = newest-above s (entriesOf g)
 
 -- to be stood for with some identity is to be covered
 reached-covered : (q : ChangedAttr) (k : ℕ) (g : ChangedAttrs) → reached g q k ≡ true → covered g q ≡ true

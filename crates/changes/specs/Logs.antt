@@ -20,7 +20,7 @@ use Rattle.changes.specs.declared.Mark.the-variants as mark
 use Rattle.lists.specs.Search.{some}
 use Rattle.lists.specs.Removal.{sweep}
 use Rattle.changes.specs.Paths.{entry, blank, upTo, above, since}
-use Rattle.changes.specs.Notes.{capacity, entered}
+use Rattle.changes.specs.Notes.{capacity, newest, entered}
 
 -- the entries that a log holds, in order
 abbrev pub entriesOf : ChangedAttrs → List ChangedAttr
@@ -86,6 +86,14 @@ cleared g = changedTo g (record { entries = replicate capacity blank; len = 0; n
 -- the answer to the watermark
 unfoldable pub marked : ChangedAttrs → Mark
 marked g = cond (kept g) (mark.At (watermarkOf g)) (mark.Refused NotWellKept)
+
+-- the greatest identity that an entry has
+abbrev pub newestOf : ChangedAttrs → ℕ
+newestOf g = newest (above 0) (entriesOf g)
+
+-- the answer to it
+unfoldable pub newestMark : ChangedAttrs → Mark
+newestMark g = cond (kept g) (mark.At (newestOf g)) (mark.Refused NotWellKept)
 
 -- is there an "entry above its seen watermark"
 abbrev pub anySince : ChangedAttrs → ℕ → Bool

@@ -1,5 +1,6 @@
 -- Document 01's number and value for each answer of the log: 0 and the value where it acted, the refusal's number and 0 where it refused.
 -- Assumes nothing.
+use mathlib.Core.Bool.{Bool, false}
 use Prim.Native.Nat.{ℕ}
 use Rattle.changes.specs.declared.NoteAnswer.{NoteAnswer}
 use Rattle.changes.specs.declared.Change.{Change}
@@ -34,6 +35,11 @@ toldNumber (told.Refused why) = numberOf why
 abbrev pub toldValue : Told → ℕ
 toldValue (told.Is b) = one b
 toldValue (told.Refused why) = 0
+
+-- whether a question was answered yes
+abbrev pub saysYes : Told → Bool
+saysYes (told.Is b) = b
+saysYes (told.Refused why) = false
 
 -- of the watermark: its value is the identity
 abbrev pub markNumber : Mark → ℕ

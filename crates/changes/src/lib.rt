@@ -8,7 +8,8 @@ ghost use Rattle.lists.specs.Search.{count, first};
 ghost use Rattle.lists.specs.Removal.{sweep};
 ghost use Rattle.changes.specs.Paths.{blank, allWild, withIdentity, fieldCovers, fieldMatches, covers, matches, under, holds};
 ghost use Rattle.changes.specs.Notes.{newest, placed, candidate, groupOf, larger, largest, folded, crowded, entered};
-ghost use Rattle.changes.specs.Logs.{entriesOf, Holds, holding, kept, identityAfter, freshLog, noted, purged, cleared, marked, anyTold, pathTold};
+ghost use Rattle.changes.specs.Logs.{entriesOf, Holds, holding, kept, identityAfter, freshLog, noted, purged, cleared, marked, newestMark, anyTold, pathTold};
+ghost use Rattle.changes.specs.Numbers.{markValue, saysYes};
 use refusal::Refusal;
 
 // One entry: a path, and the identity of its latest change. A wild field stands for every value of it. Its layout is C's, as the log's, so
@@ -65,6 +66,30 @@ pub enum Mark {
     Refused(Refusal),
 }
 
+impl Told {
+    // Whether the answer is yes; a refusal is no answer.
+    pub fn is_yes(self) -> bool
+        ensures { λ r. ⌜ r ≡ saysYes self ⌝ }
+    {
+        match self {
+            Told::Is(answer) => answer,
+            Told::Refused(_) => false,
+        }
+    }
+}
+
+impl Mark {
+    // The identity of the answer; 0 where it is a refusal.
+    pub fn value(self) -> u64
+        ensures { λ r. ⌜ r ≡ markValue self ⌝ }
+    {
+        match self {
+            Mark::At(identity) => identity,
+            Mark::Refused(_) => 0,
+        }
+    }
+}
+
 impl ChangedAttrs {
     pub fn new() -> Self
         ensures { λ r. ⌜ r ≡ freshLog ⌝ }
@@ -92,6 +117,16 @@ impl ChangedAttrs {
     {
         if self.is_kept() {
             return Mark::At(std::num::wrapping_sub_u64(self.next, 1));
+        }
+        Mark::Refused(Refusal::NotWellKept)
+    }
+
+    // The greatest identity that an entry has, 0 where there is none. Something has changed since an identity exactly where this is above it.
+    pub fn newest(self) -> Mark
+        ensures { λ r. ⌜ r ≡ newestMark self ⌝ }
+    {
+        if self.is_kept() {
+            return Mark::At(newest_of(self, Rule::Above(0)));
         }
         Mark::Refused(Refusal::NotWellKept)
     }
