@@ -20,10 +20,6 @@ use Rattle.changes.specs.Logs.{entriesOf, Holds, holding}
 use Rattle.lists.proofs.Searches.{first-some, changed-at}
 use Rattle.lists.proofs.Arrays.{slice-next, slice-done}
 
--- the length of an array that a struct holds, as the check tells it
-pub full : {A B : Type 0} (f : A → B) (l : List A) {n : ℕ} → length (map f l) ≡ n → length l ≡ n
-full f l h = sym (length-map l f) ∙ h
-
 -- the number of entries is the length of their list
 pub entries-length : (g : ChangedAttrs) → length (g .entries) ≡ 16 → g .len ≤ 16 → length (entriesOf g) ≡ g .len
 entries-length g long fits = length-take-le (g .len) (g .entries) (omega arith)

@@ -1,18 +1,26 @@
 -- The same searches and removals in an array of which the first places are held: one turn of a loop each.
 -- Assumes nothing.
-use mathlib.Core.Path.{_≡_, refl, ap}
+use mathlib.Core.Path.{sym, _∙_, _≡_, refl, ap}
 use mathlib.Core.Bool.{Bool, true, false}
-use mathlib.Core.List.{List, [], _∷_, append-nil}
-use Prim.Native.Nat.{ℕ, zero, suc, _+_, _-_, _≤_, _<_}
+use mathlib.Core.List.{map, List, [], _∷_, append-nil}
+use Prim.Native.Nat.{min, ℕ, zero, suc, _+_, _-_, _≤_, _<_}
 use native.Mathlib.Omega.{arith}
 use native.Mathlib.Numerals.{add-one}
 use native.Mathlib.Nat.{le-of-suc-le-suc, not-suc-le-zero}
-use lib.ListN.{length, take, getD, set}
-use lib.Seq.{slice, slice-cons, slice-empty, append-snoc, take-suc, take-set-le, length-take-le}
-use Rattle.lists.specs.Search.{one, count, first}
+use lib.ListN.{length-map, drop, length, take, getD, set}
+use lib.Seq.{take-all, slice, slice-cons, slice-empty, append-snoc, take-suc, take-set-le, length-take-le}
+use Rattle.lists.specs.Search.{leastBy, one, count, first}
 use Rattle.lists.specs.Removal.{lastOf, initOf, refilled, sweepFor, sweep, scanned}
 
+-- the length of an array that a struct holds, as the check tells it
+pub full : {A B : Type 0} (f : A → B) (l : List A) {n : ℕ} → length (map f l) ≡ n → length l ≡ n
+full f l h = sym (length-map l f) ∙ h
+
 module _ {A : Type 0} where
+  -- the whole of an array from a place on
+  pub slice-rest : (f t : ℕ) (l : List A) → length l ≡ t → slice f t l ≡ drop f l
+  slice-rest f t l e = rw (take-all t l (omega arith))
+
   -- the element at f is the next of those from f on
   pub slice-next : (f t : ℕ) (l : List A) (d : A) → f < t → t ≤ length l → slice f t l ≡ getD l f d ∷ slice (f + 1) t l
   slice-next f t l d h k = rw add-one (slice-cons f t l d h k)
@@ -53,6 +61,15 @@ module _ {A : Type 0} where
   swap-removed i n l d h k =
       let e : n ≡ suc (n - 1) = omega arith in
       rw (hole-filled i (n - 1) l d (omega arith) (omega arith), add-one, ← e)
+
+  module _ (i n : ℕ) (l : List A) (d : A) (room : n ≤ length l) where
+    pub least-next : (f : A → ℕ) (m : ℕ) → i < n → leastBy f m (slice i n l) ≡ min (f (getD l i d)) (leastBy f m (slice (i + 1) n l))
+    unfolding leastBy
+    least-next f m h = rw (slice-next i n l d h room, leastBy)
+
+    pub least-done : (f : A → ℕ) (m : ℕ) → i ≤ n → n ≤ i → leastBy f m (slice i n l) ≡ m
+    unfolding leastBy
+    least-done f m h k = rw (slice-done i n l h k)
 
   module _ (p : A → Bool) (i n : ℕ) (l : List A) (d : A) (room : n ≤ length l) where
     pub count-next : i < n → count p (slice i n l) ≡ one (p (getD l i d)) + count p (slice (i + 1) n l)

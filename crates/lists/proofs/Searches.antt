@@ -4,13 +4,13 @@ use mathlib.Core.Path.{_≡_, refl, sym, ap, _∙_}
 use mathlib.Core.Bool.{not, _&&_, Bool, true, false, _||_, or-assoc}
 use mathlib.Core.List.{List, [], _∷_, _++_}
 use mathlib.Core.Logic.{_⊎_, inl, inr, ⊎-elim}
-use Prim.Native.Nat.{suc, _+_, _<_}
+use Prim.Native.Nat.{_+_, suc, _+_, _<_}
 use native.Mathlib.Omega.{arith}
 use native.Mathlib.Nat.{le-of-suc-le-suc, not-suc-le-zero}
-use borrow.Author.Tests.{lt-ltb}
+use borrow.Author.Tests.{le-ltb, lt-ltb, lt-ltb}
 use lib.Dec.{ltb, leb·suc-suc}
 use lib.ListN.{length, getD, set}
-use Rattle.lists.specs.Search.{some, first, changeFirst}
+use Rattle.lists.specs.Search.{one, count, some, first, changeFirst}
 use Rattle.lists.proofs.Bools.{and-true, clash, split, or-either, or-left, or-right}
 
 module _ {A : Type 0} where
@@ -113,3 +113,12 @@ module _ {A : Type 0} where
       split (p x)
       (λ t. rw (t, changeFirst, first))
       (λ t. rw (t, changeFirst, first) (ap (λ l. x ∷ l) (changed-at p f xs d (le-of-suc-le-suc (rw (t, first) at h)))))
+
+  -- there is one exactly where one is counted
+  pub some-counted : (p : A → Bool) (l : List A) → some p l ≡ ltb 0 (count p l)
+  unfolding some count
+  some-counted p [] = sym (le-ltb 0 0 (omega arith))
+  some-counted p (x ∷ xs) =
+      split (p x)
+      (λ t. or-left (some p xs) t ∙ sym (lt-ltb 0 (one (p x) + count p xs) (omega (arith, ap one t))))
+      (λ t. rw t (some-counted p xs ∙ (let same : count p xs ≡ 0 + count p xs = omega arith in ap (λ n. ltb 0 n) same)))

@@ -1,3 +1,4 @@
 pub mod Single
 pub mod Marked
 pub mod Thirteen
+pub mod Clauses

@@ -9,13 +9,7 @@ use Rattle.time.specs.declared.Instant.{Instant}
 use Rattle.time.specs.declared.KeepAlive.{KeepAlive}
 use Rattle.subscription.specs.declared.Choice.{Choice}
 use Rattle.subscription.specs.declared.Request.{Request}
-
--- the settings of a report and of a round: now, the event number, the keep-alive kind and the all flag
-pub record Settings : Type 0 where
-  pub now : Instant
-  pub events : ℕ
-  pub kind : KeepAlive
-  pub all : Bool
+pub use Rattle.subscription.specs.declared.Settings.{Settings}
 
 pub data Op : Type 0 where
   -- a table of this capacity in place of the present one

@@ -42,6 +42,14 @@ pub struct Request {
     pub fabric: u8,
 }
 
+// What a report is asked for with: the instant, the number of the latest event, the keep-alive kind and whether all go along.
+pub struct Settings {
+    pub now: Instant,
+    pub events: u64,
+    pub kind: KeepAlive,
+    pub all: bool,
+}
+
 // Outcomes of a report, by document 01's numbers.
 pub const SENT: u8 = 0;
 

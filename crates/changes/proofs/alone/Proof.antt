@@ -5,7 +5,8 @@ use native.Mathlib.Omega.{arith}
 use borrow.Author.Needs.{needs}
 use lib.Seq.{take-suc-set}
 use lib.ListN.{length-set}
-use Rattle.changes.proofs.Steps.{held, full}
+use Rattle.changes.proofs.Steps.{held}
+use Rattle.lists.proofs.Arrays.{full}
 use Rattle.changes.proofs.alone.Statement.{statement}
 use Rattle.changes.proofs.alone.Tie as tie
 

@@ -10,7 +10,7 @@ use Rattle.changes.specs.Logs.{entriesOf}
 use Rattle.changes.specs.Paths.{blank, holds}
 use Rattle.lists.specs.Search.{first}
 use Rattle.lists.proofs.Arrays.{first-here, first-next, first-done}
-use Rattle.changes.proofs.Steps.{full}
+use Rattle.lists.proofs.Arrays.{full}
 use Rattle.changes.proofs.find.Statement.{statement}
 use Rattle.changes.proofs.find.Tie as tie
 

@@ -8,7 +8,8 @@ use borrow.Author.Needs.{needs}
 use Rattle.changes.specs.Logs.{entriesOf}
 use Rattle.changes.specs.Paths.{over}
 use Rattle.changes.proofs.Cases.{placed-found, placed-new}
-use Rattle.changes.proofs.Steps.{full, found, holds-as, entries-length, refreshed-at}
+use Rattle.changes.proofs.Steps.{found, holds-as, entries-length, refreshed-at}
+use Rattle.lists.proofs.Arrays.{full}
 use Rattle.changes.proofs.insert.Statement.{statement}
 use Rattle.changes.proofs.insert.Tie as tie
 

@@ -8,7 +8,8 @@ use lib.Seq.{slice}
 use lib.ListN.{length}
 use Rattle.changes.specs.Logs.{entriesOf}
 use Rattle.changes.specs.Notes.{largest, largestFrom}
-use Rattle.changes.proofs.Steps.{largest-next, largest-done, full}
+use Rattle.changes.proofs.Steps.{largest-next, largest-done}
+use Rattle.lists.proofs.Arrays.{full}
 use Rattle.changes.proofs.largest_group.Statement.{statement}
 use Rattle.changes.proofs.largest_group.Tie as tie
 

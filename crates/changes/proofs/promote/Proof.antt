@@ -6,7 +6,8 @@ use borrow.Author.Needs.{needs}
 use Rattle.changes.specs.Logs.{entriesOf}
 use Rattle.changes.specs.Notes.{folded}
 use Rattle.changes.proofs.Groups.{swept-room}
-use Rattle.changes.proofs.Steps.{full, holds-as, entries-length}
+use Rattle.changes.proofs.Steps.{holds-as, entries-length}
+use Rattle.lists.proofs.Arrays.{full}
 use Rattle.changes.proofs.promote.Statement.{statement}
 use Rattle.changes.proofs.promote.Tie as tie
 

@@ -11,7 +11,8 @@ use Rattle.changes.specs.Logs.{entriesOf}
 use Rattle.changes.specs.Notes.{placed}
 use Rattle.changes.proofs.Groups.{largest-covers, folded-room}
 use Rattle.changes.proofs.Cases.{crowded-fine, crowded-coarse, crowded-wild}
-use Rattle.changes.proofs.Steps.{full, holds-as, entries-length}
+use Rattle.changes.proofs.Steps.{holds-as, entries-length}
+use Rattle.lists.proofs.Arrays.{full}
 use Rattle.changes.proofs.promote_and_insert.Statement.{statement}
 use Rattle.changes.proofs.promote_and_insert.Tie as tie
 

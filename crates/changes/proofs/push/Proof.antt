@@ -4,7 +4,8 @@ use Prim.Native.Nat.{_-_}
 use native.Mathlib.Omega.{arith}
 use borrow.Author.Needs.{needs}
 use lib.ListN.{length-set}
-use Rattle.changes.proofs.Steps.{held, pushed, full}
+use Rattle.changes.proofs.Steps.{held, pushed}
+use Rattle.lists.proofs.Arrays.{full}
 use Rattle.changes.proofs.push.Statement.{statement}
 use Rattle.changes.proofs.push.Tie as tie
 

@@ -10,7 +10,8 @@ use Rattle.changes.specs.Logs.{entriesOf}
 use Rattle.changes.specs.Paths.{over, under}
 use Rattle.lists.specs.Removal.{sweep}
 use Rattle.changes.proofs.Cases.{entered-found, entered-new, inserted-room, inserted-full}
-use Rattle.changes.proofs.Steps.{full, found, holds-as, entries-length, refreshed-at}
+use Rattle.changes.proofs.Steps.{found, holds-as, entries-length, refreshed-at}
+use Rattle.lists.proofs.Arrays.{full}
 use Rattle.changes.proofs.record_raw.Statement.{statement}
 use Rattle.changes.proofs.record_raw.Tie as tie
 

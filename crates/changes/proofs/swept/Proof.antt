@@ -8,7 +8,8 @@ use lib.ListN.{length}
 use Rattle.changes.specs.Logs.{entriesOf}
 use Rattle.changes.specs.Paths.{blank, holds}
 use Rattle.lists.specs.Removal.{sweep, scanned}
-use Rattle.changes.proofs.Steps.{held, full}
+use Rattle.changes.proofs.Steps.{held}
+use Rattle.lists.proofs.Arrays.{full}
 use Rattle.lists.proofs.Arrays.{scan-start, scan-out, scan-kept, scan-done}
 use Rattle.changes.proofs.swept.Statement.{statement}
 use Rattle.changes.proofs.swept.Tie as tie

@@ -8,7 +8,8 @@ use borrow.Author.Needs.{needs}
 use lib.ListN.{length, take, replicate}
 use Rattle.changes.specs.Logs.{entriesOf}
 use Rattle.changes.specs.Paths.{blank}
-use Rattle.changes.proofs.Steps.{entries-length, blanked, blank-start, blank-end, full}
+use Rattle.changes.proofs.Steps.{entries-length, blanked, blank-start, blank-end}
+use Rattle.lists.proofs.Arrays.{full}
 use Rattle.changes.proofs.tidied.Statement.{statement}
 use Rattle.changes.proofs.tidied.Tie as tie
 

@@ -8,7 +8,8 @@ use Rattle.changes.specs.declared.Told.the-variants as told
 use Rattle.changes.specs.Logs.{entriesOf, kept, anyTold}
 use Rattle.changes.specs.Paths.{above, since}
 use Rattle.changes.proofs.Cases.{kept-fits}
-use Rattle.changes.proofs.Steps.{full, found, entries-length}
+use Rattle.changes.proofs.Steps.{found, entries-length}
+use Rattle.lists.proofs.Arrays.{full}
 use Rattle.changes.proofs.ChangedAttrs.any_since.Statement.{statement}
 use Rattle.changes.proofs.ChangedAttrs.any_since.Tie as tie
 

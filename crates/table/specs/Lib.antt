@@ -1,0 +1,3 @@
+pub mod Views
+pub mod Tests
+pub mod Moves

@@ -1,0 +1,55 @@
+-- What the table's scans look for and measure in one subscription, for each rule of the code.
+-- Assumes nothing.
+use mathlib.Core.Bool.{Bool, _&&_}
+use Prim.Native.Nat.{ℕ}
+use lib.Dec.{eqb, ltb}
+use Rattle.time.specs.declared.KeepAlive.the-variants.{Icd}
+use Rattle.subscription.specs.declared.Subscription.{Subscription}
+use Rattle.subscription.specs.declared.Settings.{Settings}
+use Rattle.subscription.specs.When.{dueOf, reportable, nextOf}
+use Rattle.subscription.specs.Choices.{chosen}
+use Rattle.rules.specs.States.{isReport, isPriming, hasId}
+use Rattle.table.specs.declared.Test.{Test}
+use Rattle.table.specs.declared.Test.the-variants.{Id, Report, Priming, Ready, Chosen, Fabric, Served}
+use Rattle.table.specs.declared.Measure.{Measure}
+use Rattle.table.specs.declared.Measure.the-variants.{Next, Due, Seen}
+
+-- reportable at the settings, where the log's greatest identity is `newest`
+unfoldable pub readyBy : Settings → ℕ → Subscription → Bool
+readyBy at newest x = reportable x (at .now) (ltb (x .seen) newest) (at .events) (at .kind) (at .all)
+
+-- of the fabric
+unfoldable pub ofFabric : ℕ → Subscription → Bool
+ofFabric fabric x = eqb (x .fabric) fabric
+
+-- "fabric and peer stored with zero fails"
+unfoldable pub served : ℕ → ℕ → Subscription → Bool
+served fabric peer x = eqb (x .fabric) fabric && (eqb (x .peer) peer && eqb (x .fails) 0)
+
+-- what a scan looks for
+abbrev pub passes : Test → Subscription → Bool
+passes (Id id) = hasId id
+passes Report = isReport
+passes Priming = isPriming
+passes (Ready at newest) = readyBy at newest
+passes (Chosen choice) = chosen choice
+passes (Fabric fabric) = ofFabric fabric
+passes (Served fabric peer) = served fabric peer
+
+-- its next instant, where the log's greatest identity is `newest`
+unfoldable pub nextBy : Settings → ℕ → Subscription → ℕ
+nextBy at newest x = nextOf x (ltb (x .seen) newest) (at .events) (at .kind) .ms
+
+-- its due instant on an intermittently connected device
+unfoldable pub icdDue : Subscription → ℕ
+icdDue x = dueOf x Icd .ms
+
+-- the watermark that it has seen
+unfoldable pub seenOf : Subscription → ℕ
+seenOf x = x .seen
+
+-- what a scan takes the least of
+abbrev pub measured : Measure → Subscription → ℕ
+measured (Next at newest) = nextBy at newest
+measured Due = icdDue
+measured Seen = seenOf
