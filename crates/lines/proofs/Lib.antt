@@ -1,0 +1,11 @@
+pub mod Parts
+pub mod Fields
+pub mod Lines
+pub mod Answers
+pub mod ReadBack
+pub mod Steps
+pub mod Cuts
+pub mod Found
+pub mod Scans
+pub mod Chunks
+pub mod Examples
