@@ -211,7 +211,7 @@ impl Subscription {
     }
 
     // Handed out: its report opens with the present watermark, event number and instant. What it has seen stays until the report has ended.
-    pub fn open(mut self, mark: u64, events: u64, now: Instant) -> Self
+    pub fn handed_out(mut self, mark: u64, events: u64, now: Instant) -> Self
         ensures { λ r. ⌜ r ≡ opened self mark events now ⌝ }
     {
         self.mark = mark;

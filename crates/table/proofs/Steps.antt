@@ -6,17 +6,19 @@ use mathlib.Core.List.{List, [], _∷_, _++_, map}
 use Prim.Native.Nat.{ℕ, zero, suc, _+_, _-_, _≤_, _<_, min}
 use native.Mathlib.Omega.{arith}
 use native.Mathlib.Numerals.{add-one}
-use borrow.Author.Tests.{le-leb, lt-leb, leb-true, leb-false, ltb-true, ltb-false}
+use borrow.Author.Tests.{lt-ltb, le-ltb, le-leb, lt-leb, leb-true, leb-false, ltb-true, ltb-false}
 use lib.Dec.{leb, ltb, eqb}
 use lib.ListN.{length, take, drop, getD, set, length-append, length-drop, length-set, List·getD-append}
 use lib.Seq.{length-take-le, take-suc, take-suc-set, drop-cons, getD-take, getD-drop, getD-append-add, take-all, drop-length}
-use Rattle.lists.specs.Search.{some, distinct, leastBy}
+use Rattle.lists.specs.Search.{first, some, distinct, leastBy}
 use Rattle.lists.proofs.Bools.{split}
+use Rattle.lists.proofs.Searches.{first-some}
 use Rattle.subscription.specs.declared.Subscription.{Subscription}
 use Rattle.subscription.specs.Life.{blank}
 use Rattle.rules.specs.States.{fabricZero}
 use Rattle.table.specs.declared.Lives.{Lives}
-use Rattle.table.specs.Views.{placeOf, Lived}
+use Rattle.table.specs.declared.Table.{Table}
+use Rattle.table.specs.Views.{storedOf, opensOf, placeOf, Lived}
 
 -- a bound is never below the least
 pub least-most : {A : Type 0} (f : A → ℕ) (m : ℕ) (l : List A) → leastBy f m l ≤ m
@@ -108,3 +110,20 @@ module _ (live : List Subscription) where
         ids-are = (rw (e, take-all (length live) live (omega arith)) at (p .ids-are));
         orphan-is = sym (p .orphan-is ∙ rw (e, drop-length live) (or-false (r .orphan)));
       }
+
+-- the place that a scan of the open ones finds is one of the eighty exactly where there is one
+pub open-there : (t : Table) → length (t .places) ≡ 80 → t .opens ≤ 80 → (p : Subscription → Bool) {i : ℕ}
+    → i ≡ 80 - t .opens + first p (opensOf t) → ltb i 80 ≡ some p (opensOf t)
+open-there t long fits p {i} e =
+    let size : length (opensOf t) ≡ t .opens = length-drop (80 - t .opens) (t .places) ∙ (omega arith) in
+    split (ltb (first p (opensOf t)) (length (opensOf t)))
+    (λ u. lt-ltb i 80 (let w = ltb-true (first p (opensOf t)) (length (opensOf t)) u in omega arith) ∙ sym u ∙ first-some p (opensOf t))
+    (λ u. le-ltb i 80 (let w = ltb-false (first p (opensOf t)) (length (opensOf t)) u in omega arith) ∙ sym u ∙ first-some p (opensOf t))
+
+-- and the place that a scan of the stored ones finds is one of theirs exactly where there is one
+pub stored-there : (t : Table) → length (t .places) ≡ 80 → t .stored ≤ 80 → (p : Subscription → Bool) {i : ℕ}
+    → i ≡ first p (storedOf t) → ltb i (t .stored) ≡ some p (storedOf t)
+stored-there t long fits p e =
+    ap (λ n. ltb n (t .stored)) e
+    ∙ ap (λ n. ltb (first p (storedOf t)) n) (sym (length-take-le (t .stored) (t .places) (omega arith)))
+    ∙ first-some p (storedOf t)

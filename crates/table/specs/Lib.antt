@@ -1,3 +1,4 @@
 pub mod Views
 pub mod Tests
 pub mod Moves
+pub mod Calls

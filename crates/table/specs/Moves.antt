@@ -66,12 +66,12 @@ unfoldable pub takenOut : Table → ℕ → Table
 takenOut t i = withPlaces t (swapped (t .places) (t .stored) i) (t .stored - 1) (t .opens)
 
 -- one more is stored, at the end
-unfoldable pub stored : Table → Subscription → Table
-stored t x = withPlaces t (set (t .places) (t .stored) x) (t .stored + 1) (t .opens)
+unfoldable pub storedLast : Table → Subscription → Table
+storedLast t x = withPlaces t (set (t .places) (t .stored) x) (t .stored + 1) (t .opens)
 
 -- one more is open
-unfoldable pub opened : Table → Subscription → Table
-opened t x = withPlaces t (set (t .places) (79 - t .opens) x) (t .stored) (t .opens + 1)
+unfoldable pub openedUp : Table → Subscription → Table
+openedUp t x = withPlaces t (set (t .places) (79 - t .opens) x) (t .stored) (t .opens + 1)
 
 -- the open one at place j is taken out: the newest fills its place
 unfoldable pub closedAt : Table → ℕ → Table

@@ -2,17 +2,25 @@
 // the far end, the newest first. Every call tests the whole state and refuses 7 exactly where it isn't well kept, then document 01's other
 // numbers in their order; a refusal hands back the table as it was. What a call does is said by the machine of crate rules.
 ghost use mathlib.Core.Path.{_≡_};
-ghost use mathlib.Core.Bool.{not, _&&_, _||_};
+ghost use mathlib.Core.Bool.{true, cond, not, _&&_, _||_};
 ghost use mathlib.Core.List.{map, _++_};
 ghost use Prim.Native.Nat.{_+_, _-_, _^_, _≤_, _<_, min};
 ghost use lib.Dec.{leb, ltb, eqb};
 ghost use lib.ListN.{take, drop, length};
 ghost use Rattle.lists.specs.Search.{one, some, count, first, leastBy};
-ghost use Rattle.rules.specs.States.{capacityFits, isReport};
-ghost use Rattle.table.specs.Views.{storedOf, opensOf, placeOf, Lived, kept};
-ghost use Rattle.table.specs.Tests.{served, passes, measured};
+ghost use Rattle.rules.specs.States.{capacityFits, isReport, hasId};
+ghost use Rattle.rules.specs.Machine.{firstOf, nextIdAfter};
+ghost use Rattle.subscription.specs.Life.{closed};
+ghost use Rattle.changes.specs.Logs.{kept as logKept};
+ghost use Rattle.table.specs.Views.{freshTable, storedOf, opensOf, placeOf, Lived, kept};
+ghost use Rattle.table.specs.Tests.{ofFabric, served, passes, measured};
+ghost use Rattle.table.specs.Moves.{withNextId, withReason, withLog, takenOut, storedLast, openedUp, closedAt};
+ghost use Rattle.table.specs.Calls.{newTable, admitObjections, asVerdict, notAdmitted, addTo, resumeIn, notCompleted, staysAfter, endedAt, completeIn, attributeAt, sendAt, noteIn, notReported, handOutIn, reportIn, anyAt, nextAt, aliveAt, loadOf, hasAt};
+use changes::Change;
 use changes::ChangedAttrs;
+use changes::Told;
 use refusal::Refusal;
+use subscription::ABANDONED;
 use subscription::Choice;
 use subscription::Request;
 use subscription::Settings;
@@ -36,7 +44,328 @@ pub struct Table {
     pub cancel: u8,
 }
 
+// The answer of a call that has nothing to tell, and the table after it.
+pub struct Settled {
+    pub answer: Change,
+    pub table: Table,
+}
+
+pub enum Admission {
+    Id(u32),
+    Refused(Refusal),
+}
+
+pub struct Admitted {
+    pub answer: Admission,
+    pub table: Table,
+}
+
+// What a completion is told: whether the subscription is stored again, and whether its subscriber has gone quiet.
+pub struct Ended {
+    pub kept: bool,
+    pub failed: bool,
+}
+
+pub enum Completion {
+    Ended(Ended),
+    Refused(Refusal),
+}
+
+pub struct Completed {
+    pub answer: Completion,
+    pub table: Table,
+}
+
+// Whether a call is refused, and why.
+pub enum Verdict {
+    Clear,
+    Refuse(Refusal),
+}
+
+// What a note is told: its identity, and that it wakes whoever waits.
+pub struct Heard {
+    pub identity: u64,
+    pub wakes: bool,
+}
+
+pub enum Hearing {
+    Entered(Heard),
+    Refused(Refusal),
+}
+
+pub struct TableNoted {
+    pub answer: Hearing,
+    pub table: Table,
+}
+
+// What a hand-out is told: the id and the number of its request bytes.
+pub struct Handed {
+    pub id: u32,
+    pub rx: u16,
+}
+
+pub enum HandOut {
+    To(Handed),
+    Nothing,
+    Refused(Refusal),
+}
+
+pub struct Reported {
+    pub answer: HandOut,
+    pub table: Table,
+}
+
+pub enum Moment {
+    At(Instant),
+    Refused(Refusal),
+}
+
+pub enum Alive {
+    At(Instant),
+    Never,
+    Refused(Refusal),
+}
+
+// Counted places, the stored of a fabric, and the ids given so far.
+pub struct Load {
+    pub places: usize,
+    pub fabric: usize,
+    pub established: u32,
+}
+
+pub enum Loaded {
+    Is(Load),
+    Refused(Refusal),
+}
+
 impl Table {
+    // A fresh table. A capacity that is none makes a table that every call refuses.
+    pub fn new(capacity: u8) -> Settled
+        ensures { λ r. ⌜ r ≡ newTable capacity ⌝ }
+    {
+        if within(capacity, 0, 0) {
+            return Settled {
+                answer: Change::Done,
+                table: fresh(capacity),
+            };
+        }
+        Settled {
+            answer: Change::Refused(Refusal::BadArgument),
+            table: fresh(0),
+        }
+    }
+
+    // A subscriber is admitted: it takes the next id, and its priming opens.
+    pub fn add(self, request: Request, events: u64, now: Instant) -> Admitted
+        ensures { λ r. ⌜ r ≡ addTo self request events now ⌝ }
+    {
+        if !self.is_kept() {
+            return self.not_admitted(Refusal::NotWellKept);
+        }
+        match self.admits(request, self.next) {
+            Verdict::Refuse(why) => self.not_admitted(why),
+            Verdict::Clear => {
+                let log = self.log;
+                let id = self.next;
+                let mark = log.watermark().value();
+                let x = Subscription::primed(request, id, mark, events, now);
+                Admitted {
+                    answer: Admission::Id(id),
+                    table: self.opened_up(x).with_next(next_id(id, id)),
+                }
+            }
+        }
+    }
+
+    // A subscriber that a restart brings back is stored under the id that it knows.
+    pub fn resume(self, id: u32, request: Request, events: u64) -> Admitted
+        ensures { λ r. ⌜ r ≡ resumeIn self id request events ⌝ }
+    {
+        if !self.is_kept() {
+            return self.not_admitted(Refusal::NotWellKept);
+        }
+        match self.admits(request, id) {
+            Verdict::Refuse(why) => self.not_admitted(why),
+            Verdict::Clear => {
+                let log = self.log;
+                let mark = log.watermark().value();
+                let x = Subscription::resumed(request, id, mark, events);
+                Admitted {
+                    answer: Admission::Id(id),
+                    table: self.stored_last(x).with_next(next_id(self.next, id)),
+                }
+            }
+        }
+    }
+
+    // The open report or priming with the id ends with the outcome.
+    pub fn complete(self, id: u32, outcome: u8) -> Completed
+        ensures { λ r. ⌜ r ≡ completeIn self id outcome ⌝ }
+    {
+        if !self.is_kept() {
+            return self.not_completed(Refusal::NotWellKept);
+        }
+        if ABANDONED < outcome {
+            return self.not_completed(Refusal::BadArgument);
+        }
+        let at = self.find_open(Test::Id(id));
+        if 80 <= at {
+            return self.not_completed(Refusal::NotOpen);
+        }
+        self.ended(at, outcome)
+    }
+
+    // Whether the open report or priming with the id tells of the attribute.
+    pub fn should_report_attr(self, id: u32, endpoint: u16, cluster: u32, attr: u32) -> Told
+        ensures { λ r. ⌜ r ≡ attributeAt self id endpoint cluster attr ⌝ }
+    {
+        if !self.is_kept() {
+            return Told::Refused(Refusal::NotWellKept);
+        }
+        let at = self.find_open(Test::Id(id));
+        if 80 <= at {
+            return Told::Refused(Refusal::NotOpen);
+        }
+        let x = self.places[at];
+        let reported = x.reported;
+        if reported.is_never() {
+            return Told::Is(true);
+        }
+        let log = self.log;
+        log.contains_since(endpoint, cluster, attr, x.seen)
+    }
+
+    // Whether the open report or priming with the id is sent though it has nothing to tell.
+    pub fn should_send_if_empty(self, id: u32, kind: KeepAlive) -> Told
+        ensures { λ r. ⌜ r ≡ sendAt self id kind ⌝ }
+    {
+        if !self.is_kept() {
+            return Told::Refused(Refusal::NotWellKept);
+        }
+        let at = self.find_open(Test::Id(id));
+        if 80 <= at {
+            return Told::Refused(Refusal::NotOpen);
+        }
+        let x = self.places[at];
+        let opened = x.opened;
+        Told::Is(x.is_report_due(opened, kind))
+    }
+
+    // A path has changed.
+    pub fn note(self, endpoint: u16, cluster: u32, attr: u32) -> TableNoted
+        ensures { λ r. ⌜ r ≡ noteIn self endpoint cluster attr ⌝ }
+    {
+        if !self.is_kept() {
+            return TableNoted {
+                answer: Hearing::Refused(Refusal::NotWellKept),
+                table: self,
+            };
+        }
+        let log = self.log;
+        let identity = log.next;
+        let noted = log.note(endpoint, cluster, attr);
+        let after = noted.log;
+        TableNoted {
+            answer: Hearing::Entered(Heard {
+                identity: identity,
+                wakes: true,
+            }),
+            table: self.with_log(after),
+        }
+    }
+
+    // The first stored one that is reportable is handed out.
+    pub fn report(self, at: Settings) -> Reported
+        ensures { λ r. ⌜ r ≡ reportIn self at ⌝ }
+    {
+        if !self.is_kept() {
+            return self.not_reported(Refusal::NotWellKept);
+        }
+        if self.find_open(Test::Report) < 80 {
+            return self.not_reported(Refusal::ReportOpen);
+        }
+        self.hand_out(at)
+    }
+
+    // The earliest instant at which a stored one could report.
+    pub fn next_report_at(self, events: u64, kind: KeepAlive) -> Moment
+        ensures { λ r. ⌜ r ≡ nextAt self events kind ⌝ }
+    {
+        if !self.is_kept() {
+            return Moment::Refused(Refusal::NotWellKept);
+        }
+        let log = self.log;
+        let newest = log.newest().value();
+        let last = Instant::LAST;
+        let at = Settings {
+            now: last,
+            events: events,
+            kind: kind,
+            all: false,
+        };
+        Moment::At(Instant {
+            ms: self.least_stored(Measure::Next(at, newest), last.ms),
+        })
+    }
+
+    // Whether a stored one is reportable now.
+    pub fn any_reportable(self, now: Instant, events: u64, kind: KeepAlive) -> Told
+        ensures { λ r. ⌜ r ≡ anyAt self now events kind ⌝ }
+    {
+        if !self.is_kept() {
+            return Told::Refused(Refusal::NotWellKept);
+        }
+        let log = self.log;
+        let newest = log.newest().value();
+        let at = Settings {
+            now: now,
+            events: events,
+            kind: kind,
+            all: false,
+        };
+        Told::Is(self.find_stored(Test::Ready(at, newest)) < self.stored)
+    }
+
+    // When an intermittently connected device wakes up for its subscriptions at the latest.
+    pub fn next_keep_alive_at(self) -> Alive
+        ensures { λ r. ⌜ r ≡ aliveAt self ⌝ }
+    {
+        if !self.is_kept() {
+            return Alive::Refused(Refusal::NotWellKept);
+        }
+        if self.stored == 0 {
+            return Alive::Never;
+        }
+        let last = Instant::LAST;
+        Alive::At(Instant {
+            ms: self.least_stored(Measure::Due, last.ms),
+        })
+    }
+
+    // Figures for the status page: counted places, the stored of a fabric (0 where none is asked), and the ids given so far.
+    pub fn load_stats(self, fabric: u8) -> Loaded
+        ensures { λ r. ⌜ r ≡ loadOf self fabric ⌝ }
+    {
+        if !self.is_kept() {
+            return Loaded::Refused(Refusal::NotWellKept);
+        }
+        Loaded::Is(Load {
+            places: self.stored + self.opens,
+            fabric: self.of_fabric(fabric),
+            established: less_one(self.next),
+        })
+    }
+
+    // Whether the peer has a subscription that is served: the last report to it did not fail.
+    pub fn has_subscription_for(self, fabric: u8, peer: u64) -> Told
+        ensures { λ r. ⌜ r ≡ hasAt self fabric peer ⌝ }
+    {
+        if !self.is_kept() {
+            return Told::Refused(Refusal::NotWellKept);
+        }
+        Told::Is(self.find_stored(Test::Served(fabric, peer)) < self.stored)
+    }
+
     // Whether the table is well kept.
     pub fn is_kept(self) -> bool
         ensures { λ r. ⌜ r ≡ kept self ⌝ }
@@ -169,6 +498,204 @@ impl Table {
         }
         least
     }
+
+    fn not_reported(self, why: Refusal) -> Reported
+        ensures { λ r. ⌜ r ≡ notReported self why ⌝ }
+    {
+        Reported {
+            answer: HandOut::Refused(why),
+            table: self,
+        }
+    }
+
+    // The first stored one that is reportable opens its report; its place is filled by the last stored one.
+    fn hand_out(self, at: Settings) -> Reported
+        requires { ⌜ (self .stored + self .opens ≤ 80) × (logKept (self .log) ≡ true) ⌝ }
+        ensures { λ r. ⌜ r ≡ handOutIn self at ⌝ }
+    {
+        let log = self.log;
+        let newest = log.newest().value();
+        let i = self.find_stored(Test::Ready(at, newest));
+        if i < self.stored {
+            let x = self.places[i];
+            let now = at.now;
+            let mark = log.watermark().value();
+            return Reported {
+                answer: HandOut::To(Handed { id: x.id, rx: x.rx }),
+                table: self.taken_out(i)
+                    .opened_up(x.handed_out(mark, at.events, now)),
+            };
+        }
+        Reported {
+            answer: HandOut::Nothing,
+            table: self,
+        }
+    }
+
+    // The stored one at a place goes: the last stored one fills its place, and its own is blank.
+    fn taken_out(mut self, i: usize) -> Table
+        requires { ⌜ (self .stored ≤ 80) × (i < self .stored) ⌝ }
+        ensures { λ r. ⌜ r ≡ takenOut self i ⌝ }
+    {
+        let n = self.stored - 1;
+        let last = self.places[n];
+        self.places[i] = last;
+        self.places[n] = Subscription::BLANK;
+        self.stored = n;
+        self
+    }
+
+    // One more is open.
+    fn opened_up(mut self, x: Subscription) -> Table
+        requires { ⌜ self .opens < 80 ⌝ }
+        ensures { λ r. ⌜ r ≡ openedUp self x ⌝ }
+    {
+        let opens = self.opens;
+        let at = 79 - opens;
+        self.places[at] = x;
+        self.opens = opens + 1;
+        self
+    }
+
+    fn with_log(mut self, log: ChangedAttrs) -> Table
+        ensures { λ r. ⌜ r ≡ withLog self log ⌝ }
+    {
+        self.log = log;
+        self
+    }
+
+    fn not_admitted(self, why: Refusal) -> Admitted
+        ensures { λ r. ⌜ r ≡ notAdmitted self why ⌝ }
+    {
+        Admitted {
+            answer: Admission::Refused(why),
+            table: self,
+        }
+    }
+
+    // Whether there is a place for the request, under the id.
+    fn admits(self, request: Request, id: u32) -> Verdict
+        requires { ⌜ self .stored + self .opens ≤ 80 ⌝ }
+        ensures { λ r. ⌜ r ≡ asVerdict (firstOf (admitObjections self request id)) ⌝ }
+    {
+        if request.fabric == 0 {
+            return Verdict::Refuse(Refusal::BadArgument);
+        }
+        let most = self.capacity as usize;
+        if most <= self.stored + self.opens {
+            return Verdict::Refuse(Refusal::Full);
+        }
+        if self.is_live(id) {
+            return Verdict::Refuse(Refusal::IdLive);
+        }
+        Verdict::Clear
+    }
+
+    fn is_live(self, id: u32) -> bool
+        requires { ⌜ self .stored + self .opens ≤ 80 ⌝ }
+        ensures { λ r. ⌜ r ≡ (some (hasId id) (storedOf self) || some (hasId id) (opensOf self)) ⌝ }
+    {
+        if self.find_stored(Test::Id(id)) < self.stored {
+            return true;
+        }
+        self.find_open(Test::Id(id)) < 80
+    }
+
+    fn not_completed(self, why: Refusal) -> Completed
+        ensures { λ r. ⌜ r ≡ notCompleted self why ⌝ }
+    {
+        Completed {
+            answer: Completion::Refused(why),
+            table: self,
+        }
+    }
+
+    // The open one at a place ends. A report that was cancelled is dropped whatever its outcome, and its reason goes with it.
+    fn ended(self, at: usize, outcome: u8) -> Completed
+        requires { ⌜ (self .stored + self .opens ≤ 80) × ((80 - self .opens ≤ at) × (at < 80)) ⌝ }
+        ensures { λ r. ⌜ r ≡ endedAt self at outcome ⌝ }
+    {
+        let x = self.places[at];
+        let stays = self.stays(x, outcome);
+        Completed {
+            answer: Completion::Ended(Ended {
+                kept: stays,
+                failed: x.has_failed(outcome),
+            }),
+            table: self.after_end(at, x, outcome, stays)
+                .with_cancel(reason_left(x.reporting, self.cancel)),
+        }
+    }
+
+    fn stays(self, x: Subscription, outcome: u8) -> bool
+        ensures { λ r. ⌜ r ≡ staysAfter self x outcome ⌝ }
+    {
+        if is_cancelled(x.reporting, self.cancel) {
+            return false;
+        }
+        x.is_kept(outcome)
+    }
+
+    fn after_end(self, at: usize, x: Subscription, outcome: u8, stays: bool) -> Table
+        requires { ⌜ (self .stored + self .opens ≤ 80) × ((80 - self .opens ≤ at) × (at < 80)) ⌝ }
+        ensures { λ r. ⌜ r ≡ cond stays (storedLast (closedAt self at) (closed x outcome)) (closedAt self at) ⌝ }
+    {
+        let rest = self.closed_at(at);
+        if stays {
+            return rest.stored_last(x.close(outcome));
+        }
+        rest
+    }
+
+    // The open one at a place goes: the newest open one fills its place, and its own is blank.
+    fn closed_at(mut self, at: usize) -> Table
+        requires { ⌜ (self .opens ≤ 80) × ((80 - self .opens ≤ at) × (at < 80)) ⌝ }
+        ensures { λ r. ⌜ r ≡ closedAt self at ⌝ }
+    {
+        let opens = self.opens;
+        let first = PLACES - opens;
+        let newest = self.places[first];
+        self.places[at] = newest;
+        self.places[first] = Subscription::BLANK;
+        self.opens = opens - 1;
+        self
+    }
+
+    // One more is stored, at the end.
+    fn stored_last(mut self, x: Subscription) -> Table
+        requires { ⌜ self .stored < 80 ⌝ }
+        ensures { λ r. ⌜ r ≡ storedLast self x ⌝ }
+    {
+        let n = self.stored;
+        self.places[n] = x;
+        self.stored = n + 1;
+        self
+    }
+
+    fn with_next(mut self, next: u32) -> Table
+        ensures { λ r. ⌜ r ≡ withNextId self next ⌝ }
+    {
+        self.next = next;
+        self
+    }
+
+    fn with_cancel(mut self, reason: u8) -> Table
+        ensures { λ r. ⌜ r ≡ withReason self reason ⌝ }
+    {
+        self.cancel = reason;
+        self
+    }
+
+    // How many stored ones are of the fabric; none where no fabric is asked.
+    fn of_fabric(self, fabric: u8) -> usize
+        requires { ⌜ self .stored ≤ 80 ⌝ }
+        ensures { λ r. ⌜ r ≡ cond (eqb fabric 0) 0 (count (ofFabric fabric) (storedOf self)) ⌝ }
+    {
+        if fabric == 0 {
+            return 0;
+        }
+        self.count_stored(Test::Fabric(fabric))
+    }
 }
 
 // What one pass over the live ones finds.
@@ -298,4 +825,49 @@ fn lesser(a: u64, b: u64) -> u64
     ensures { λ r. ⌜ r ≡ min a b ⌝ }
 {
     if a <= b { a } else { b }
+}
+
+fn fresh(capacity: u8) -> Table
+    ensures { λ r. ⌜ r ≡ freshTable capacity ⌝ }
+{
+    Table {
+        places: [Subscription::BLANK; 80],
+        log: ChangedAttrs::new(),
+        stored: 0,
+        opens: 0,
+        next: 1,
+        capacity: capacity,
+        cancel: 0,
+    }
+}
+
+fn less_one(n: u32) -> u32
+    ensures { λ r. ⌜ r ≡ n - 1 ⌝ }
+{
+    if n == 0 { 0 } else { n - 1 }
+}
+
+// The greater of the next id and the one after a given id, which wraps.
+fn next_id(next: u32, id: u32) -> u32
+    ensures { λ r. ⌜ r ≡ nextIdAfter next id ⌝ }
+{
+    let after = std::num::wrapping_add_u32(id, 1);
+    if next <= after { after } else { next }
+}
+
+// The reason that is left when an open one ends: it goes with the report.
+fn reason_left(reporting: bool, reason: u8) -> u8
+    ensures { λ r. ⌜ r ≡ cond reporting 0 reason ⌝ }
+{
+    if reporting { 0 } else { reason }
+}
+
+// Whether an open one is a report that was cancelled.
+fn is_cancelled(reporting: bool, reason: u8) -> bool
+    ensures { λ r. ⌜ r ≡ (reporting && not (eqb reason 0)) ⌝ }
+{
+    if reporting {
+        return reason != 0;
+    }
+    false
 }
