@@ -2,3 +2,10 @@ pub mod Single
 pub mod Marked
 pub mod Thirteen
 pub mod Clauses
+pub mod Refusals
+pub mod Kept
+pub mod Objections
+pub mod Lives
+pub mod Sound
+pub mod Keeping
+pub mod Steps

@@ -2,3 +2,4 @@ pub mod Marked
 pub mod States
 pub mod Calls
 pub mod Machine
+pub mod Histories

@@ -1,0 +1,30 @@
+-- The words in which the machine's theorems speak of refusals and histories.
+-- Assumes nothing.
+use mathlib.Core.Bool.{Bool, false}
+use mathlib.Core.Option.{Option, none}
+use mathlib.Core.Option.{some as just}
+use Prim.Native.Nat.{ℕ}
+use lib.Dec.{eqb}
+use Rattle.refusal.specs.declared.Refusal.{Refusal}
+use Rattle.refusal.specs.Numbers.{numberOf}
+use Rattle.rules.specs.Calls as call
+use Rattle.rules.specs.Calls.{Answer}
+
+-- the call is refused with this number
+abbrev pub numbered : ℕ → Option Refusal → Bool
+numbered n none = false
+numbered n (just why) = eqb (numberOf why) n
+
+-- the answer is the refusal with this number
+abbrev pub refusedBy : ℕ → Answer → Bool
+refusedBy n (call.refused why) = eqb (numberOf why) n
+refusedBy n call.done = false
+refusedBy n (call.number k) = false
+refusedBy n call.nothing = false
+refusedBy n (call.handed id rx) = false
+refusedBy n (call.completed stays failed) = false
+refusedBy n (call.yesNo b) = false
+refusedBy n (call.instant i) = false
+refusedBy n (call.keepAlive i) = false
+refusedBy n (call.stats places ofFabric established) = false
+refusedBy n (call.rounded handOuts silent ids) = false
