@@ -1,15 +1,15 @@
 -- Laws of counting: what a removal, a change and a joining do to the number of elements that a test holds of; distinct numbers told by counts.
 -- Assumes nothing.
 use mathlib.Core.Path.{_≡_, refl, sym, ap, _∙_}
-use mathlib.Core.Bool.{Bool, true, false, not, _&&_, and-true, and-false}
+use mathlib.Core.Bool.{Bool, true, false, not, _&&_, _||_, and-true, and-false, or-assoc}
 use mathlib.Core.List.{List, [], _∷_, _++_}
-use Prim.Native.Nat.{ℕ, zero, suc, _+_, _≤_}
+use Prim.Native.Nat.{ℕ, zero, suc, _+_, _≤_, min}
 use native.Mathlib.Omega.{arith}
 use native.Mathlib.Nat.{zero-add, le-refl, le-of-suc-le-suc, not-suc-le-zero}
-use borrow.Author.Tests.{eqb-true, eq-eqb, lt-ltb, ltb-true, ltb-false, not-true}
-use lib.Dec.{eqb, ltb}
+use borrow.Author.Tests.{le-leb, leb-true, lt-leb, leb-false, eqb-true, eq-eqb, lt-ltb, ltb-true, ltb-false, not-true}
+use lib.Dec.{eqb, leb, ltb}
 use lib.ListN.{length}
-use Rattle.lists.specs.Search.{one, some, count, changeFirst, firstBy, distinct}
+use Rattle.lists.specs.Search.{one, some, count, changeFirst, firstBy, distinct, leastBy}
 use Rattle.lists.specs.Removal.{refilled, sweepFor, sweep, takeOut, takeOutNewest}
 use Rattle.lists.proofs.Bools.{split, clash, and-both, not-so}
 use Rattle.lists.proofs.Bools.{and-true as both-true}
@@ -31,6 +31,16 @@ none-one false e = refl
 pub one-most : (b : Bool) → one b ≤ 1
 one-most true = omega arith
 one-most false = omega arith
+
+-- the lesser of two numbers is at most n where one of them is
+leb-min : (a b n : ℕ) → leb (min a b) n ≡ (leb a n || leb b n)
+leb-min a b n =
+    split (leb a n)
+    (λ t. rw t (le-leb (min a b) n (omega (arith, leb-true a n t))))
+    (λ t. rw t
+    (split (leb b n)
+    (λ u. rw u (le-leb (min a b) n (omega (arith, leb-true b n u))))
+    (λ u. rw u (lt-leb (min a b) n (omega (arith, leb-false a n t, leb-false b n u))))))
 
 module _ {A : Type 0} where
   -- ---- counting
@@ -158,3 +168,19 @@ module _ {A : Type 0} where
       (some-weaken (λ y. eqb (f x) (f y)) (λ y. eqb (f y) (f x)) xs (λ y e. eq-eqb (f y) (f x) (sym (eqb-true (f x) (f y) e))))
       (none-count (λ y. eqb (f y) (f x)) xs (omega (arith, h (f x))))))
       (counts-distinct f xs (λ j. omega (arith, h j)))
+
+  -- ---- the least number
+
+  pub some-same : (p q : A → Bool) (l : List A) → ((x : A) → p x ≡ q x) → some p l ≡ some q l
+  unfolding some
+  some-same p q [] f = refl
+  some-same p q (x ∷ xs) f = rw (f x, some-same p q xs f)
+
+  -- the least of some numbers and m is at most n where one of them is, or m
+  pub least-most : (f : A → ℕ) (m n : ℕ) (l : List A) → leb (leastBy f m l) n ≡ (some (λ x. leb (f x) n) l || leb m n)
+  unfolding leastBy some
+  least-most f m n [] = refl
+  least-most f m n (x ∷ xs) =
+      leb-min (f x) (leastBy f m xs) n
+      ∙ ap (λ b. leb (f x) n || b) (least-most f m n xs)
+      ∙ sym (or-assoc (leb (f x) n) (some (λ x. leb (f x) n) xs) (leb m n))

@@ -9,3 +9,6 @@ pub mod Lives
 pub mod Sound
 pub mod Keeping
 pub mod Steps
+pub mod Instants
+pub mod Least
+pub mod Nobody

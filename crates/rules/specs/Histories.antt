@@ -1,12 +1,16 @@
 -- The words in which the machine's theorems speak of refusals and histories.
 -- Assumes nothing.
-use mathlib.Core.Bool.{Bool, false}
+use mathlib.Core.Bool.{Bool, false, not}
 use mathlib.Core.Option.{Option, none}
 use mathlib.Core.Option.{some as just}
 use Prim.Native.Nat.{ℕ}
-use lib.Dec.{eqb}
+use lib.Dec.{eqb, ltb}
 use Rattle.refusal.specs.declared.Refusal.{Refusal}
 use Rattle.refusal.specs.Numbers.{numberOf}
+use Rattle.lists.specs.Search.{some}
+use Rattle.time.specs.Instants.{lastInstant}
+use Rattle.subscription.specs.declared.Subscription.{Subscription}
+use Rattle.rules.specs.States.{State}
 use Rattle.rules.specs.Calls as call
 use Rattle.rules.specs.Calls.{Answer}
 
@@ -28,3 +32,10 @@ refusedBy n (call.instant i) = false
 refusedBy n (call.keepAlive i) = false
 refusedBy n (call.stats places ofFabric established) = false
 refusedBy n (call.rounded handOuts silent ids) = false
+
+-- "An instant is a u64 of milliseconds.": no stored one waits for a retry past the last of them
+abbrev pub lateRetry : Subscription → Bool
+lateRetry x = ltb (lastInstant .ms) (x .retry .ms)
+
+abbrev pub retriesFit : State → Bool
+retriesFit s = not (some lateRetry (s .stored))
