@@ -2,6 +2,8 @@ pub mod Single
 pub mod Marked
 pub mod Thirteen
 pub mod Clauses
+pub mod Starving
+pub mod Computing
 pub mod Refusals
 pub mod Kept
 pub mod Objections

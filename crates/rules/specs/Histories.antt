@@ -1,6 +1,8 @@
 -- The words in which the machine's theorems speak of refusals and histories.
 -- Assumes nothing.
+use mathlib.Core.Path.{_≡_}
 use mathlib.Core.Bool.{Bool, false, not}
+use mathlib.Core.List.{List, map}
 use mathlib.Core.Option.{Option, none}
 use mathlib.Core.Option.{some as just}
 use Prim.Native.Nat.{ℕ}
@@ -12,7 +14,8 @@ use Rattle.time.specs.Instants.{lastInstant}
 use Rattle.subscription.specs.declared.Subscription.{Subscription}
 use Rattle.rules.specs.States.{State}
 use Rattle.rules.specs.Calls as call
-use Rattle.rules.specs.Calls.{Answer}
+use Rattle.rules.specs.Calls.{Op, Answer}
+use Rattle.rules.specs.Machine.{run, answers}
 
 -- the call is refused with this number
 abbrev pub numbered : ℕ → Option Refusal → Bool
@@ -39,3 +42,15 @@ lateRetry x = ltb (lastInstant .ms) (x .retry .ms)
 
 abbrev pub retriesFit : State → Bool
 retriesFit s = not (some lateRetry (s .stored))
+
+-- calls with the answers beside them
+abbrev pub Diary : Type 0
+Diary = List (Op × Answer)
+
+-- from the state each call is answered as the diary has it
+abbrev pub GoesBy : Diary → State → Type 0
+GoesBy d s = answers (map (λ l. l .0) d) s ≡ map (λ l. l .1) d
+
+-- the state after the calls
+abbrev pub after : Diary → State → State
+after d s = run (map (λ l. l .0) d) s
