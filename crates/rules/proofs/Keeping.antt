@@ -21,7 +21,8 @@ use Rattle.subscription.proofs.Laws.{priming-id, priming-fabric, priming-report
 use Rattle.rules.specs.States.{State, counted, liveOnes, isReport, reportOpen, hasId, idLive, fabricZero}
 use Rattle.rules.specs.Calls.{Settings}
 use Rattle.rules.specs.Machine.{full, added, resumedTo, ready, openedIn, reported, openWith, completedIn}
-use Rattle.rules.proofs.Lives.{lives, every, stays, nextUp, afterHandOut, handed-state, lives-counted, added-lives, resumed-lives, reported-lives, completed-lives}
+use Rattle.rules.specs.Counts.{nextUp}
+use Rattle.rules.proofs.Lives.{lives, every, stays, afterHandOut, handed-state, lives-counted, added-lives, resumed-lives, reported-lives, completed-lives}
 use Rattle.rules.proofs.Sound.{Sound}
 
 -- ---- admission

@@ -14,3 +14,5 @@ pub mod Steps
 pub mod Instants
 pub mod Least
 pub mod Nobody
+pub mod Counts
+pub mod Counting

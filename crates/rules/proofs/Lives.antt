@@ -21,6 +21,7 @@ use Rattle.subscription.specs.Choices.{chosen}
 use Rattle.subscription.proofs.Laws.{opened-id}
 use Rattle.rules.specs.States.{State, counted, hasId}
 use Rattle.rules.specs.Calls.{Settings}
+use Rattle.rules.specs.Counts.{nextUp}
 use Rattle.rules.specs.Machine.{withOnes, added, resumedTo, ready, openedIn, reported, openWith, cancelled, storedAfter, completedIn, removed, clearedIn}
 
 -- of how many live ones the test holds
@@ -35,11 +36,7 @@ every x = true
 abbrev pub stays : Subscription → ℕ → State → Bool
 stays x o s = not (cancelled x s) && keeps x o
 
--- the one that is handed out
-abbrev pub nextUp : Settings → State → Subscription
-nextUp at s = firstBy (ready at s) blank (s .stored)
-
--- the state after it is
+-- the state after a hand-out
 abbrev pub afterHandOut : Settings → State → State
 afterHandOut at s = withOnes s (takeOut (ready at s) (s .stored)) (openedIn at s (nextUp at s) ∷ s .opens)
 

@@ -15,7 +15,7 @@ use Rattle.subscription.specs.declared.Subscription.{Subscription}
 use Rattle.rules.specs.States.{State}
 use Rattle.rules.specs.Calls as call
 use Rattle.rules.specs.Calls.{Op, Answer}
-use Rattle.rules.specs.Machine.{run, answers}
+use Rattle.rules.specs.Machine.{takesState, run, answers}
 
 -- the call is refused with this number
 abbrev pub numbered : ℕ → Option Refusal → Bool
@@ -42,6 +42,10 @@ lateRetry x = ltb (lastInstant .ms) (x .retry .ms)
 
 abbrev pub retriesFit : State → Bool
 retriesFit s = not (some lateRetry (s .stored))
+
+-- the only call that takes no state
+abbrev pub isNew : Op → Bool
+isNew op = not (takesState op)
 
 -- calls with the answers beside them
 abbrev pub Diary : Type 0

@@ -3,3 +3,4 @@ pub mod States
 pub mod Calls
 pub mod Machine
 pub mod Histories
+pub mod Counts
