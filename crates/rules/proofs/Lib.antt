@@ -16,3 +16,5 @@ pub mod Least
 pub mod Nobody
 pub mod Counts
 pub mod Counting
+pub mod Examples
+pub mod Refusing
