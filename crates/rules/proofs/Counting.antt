@@ -1,4 +1,4 @@
--- What one call does to the number of counted places: `Lives` with the test that always holds, call by call.
+-- What one call does to the number of counted places, and a history: `Lives` with the test that always holds, call by call.
 -- Assumes nothing.
 use mathlib.Core.Path.{_≡_, refl}
 use mathlib.Core.Bool.{Bool, true, false, cond, not, _&&_, _||_}
@@ -10,14 +10,15 @@ use native.Mathlib.Omega.{arith}
 use borrow.Author.Tests.{not-false}
 use Rattle.refusal.specs.declared.Refusal.{Refusal}
 use Rattle.lists.specs.Search.{one, some}
-use Rattle.lists.proofs.Bools.{split}
+use Rattle.lists.proofs.Bools.{split, or-neither}
 use Rattle.lists.proofs.Orders.{count-every}
 use Rattle.subscription.specs.Life.{keeps}
 use Rattle.rules.specs.States.{State, hasId}
 use Rattle.rules.specs.Calls as call
 use Rattle.rules.specs.Calls.{Settings, Op}
-use Rattle.rules.specs.Machine.{firstOf, objections, takesState, refusal, notedIn, ready, reported, openWith, cancelled, completedIn, purgedIn, Turn, turned, roundFrom, roundIn, act, stepBy, step}
-use Rattle.rules.specs.Counts.{admits, resumes, drops, nextUp, roundEnds, ends, unless}
+use Rattle.rules.specs.Histories.{isNew}
+use Rattle.rules.specs.Machine.{firstOf, objections, takesState, refusal, notedIn, ready, reported, openWith, cancelled, completedIn, purgedIn, Turn, turned, roundFrom, roundIn, act, stepBy, step, run}
+use Rattle.rules.specs.Counts.{admits, resumes, drops, nextUp, roundEnds, ends, unless, total, admissions, resumptions, endings}
 use Rattle.rules.proofs.Objections.{unobjected, no-objection}
 use Rattle.rules.proofs.Lives.{lives, every, handed-state, added-lives, resumed-lives, reported-lives, completed-lives, removed-lives, cleared-lives, turn-found}
 
@@ -75,7 +76,7 @@ act-counts (call.statistics fabric) s t e = refl
 act-counts (call.hasSubscription fabric peer) s t e = refl
 act-counts (call.round at outcomes ids) s t e = omega (arith, round-counts at outcomes (record { handOuts = 0; ids = ids; state = s }))
 
-pub step-counts : (op : Op) (s : State) → takesState op ≡ true
+step-counts : (op : Op) (s : State) → takesState op ≡ true
     → lives every (step op s .state) + unless (refusal op s) (ends op s)
     ≡ lives every s + (unless (refusal op s) (admits op s) + unless (refusal op s) (resumes op s))
 unfolding step
@@ -85,3 +86,13 @@ step-counts op s t = go (refusal op s) refl
         → lives every (stepBy r op s .state) + unless r (ends op s) ≡ lives every s + (unless r (admits op s) + unless r (resumes op s))
     go none e = act-counts op s t (no-objection op s e)
     go (just why) e = refl
+
+-- and a history adds up
+pub run-counts : (ops : List Op) (s : State) → some isNew ops ≡ false
+    → lives every (run ops s) + endings ops s ≡ lives every s + (admissions ops s + resumptions ops s)
+unfolding run total some
+run-counts [] s h = refl
+run-counts (op ∷ ops) s h =
+    let w = or-neither (isNew op) (some isNew ops) h in
+    let rest = run-counts ops (step op s .state) (w .1) in
+    omega (arith, step-counts op s (not-false _ (w .0)))

@@ -1,11 +1,12 @@
 -- One small history for each call, with document 01's sentence above it. The answers, and where the sentence speaks of it the state, are computed.
 -- Assumes nothing.
 use mathlib.Core.Path.{_≡_, refl}
-use mathlib.Core.Bool.{true, false}
+use mathlib.Core.Bool.{Bool, true, false}
 use mathlib.Core.List.{[], _∷_}
 use mathlib.Core.Option.{none}
 use mathlib.Core.Option.{some as just}
 use Prim.Native.Nat.{ℕ}
+use Rattle.time.specs.declared.KeepAlive.{KeepAlive}
 use Rattle.time.specs.declared.KeepAlive.the-variants.{Default, Icd}
 use Rattle.time.specs.Instants.{instant}
 use Rattle.subscription.specs.declared.Request.{Request}
@@ -13,7 +14,7 @@ use Rattle.subscription.specs.declared.Choice.the-variants.{All, Fabric, Id}
 use Rattle.subscription.specs.Life.{priming, resumed}
 use Rattle.rules.specs.States.{State, fresh}
 use Rattle.rules.specs.Calls as call
-use Rattle.rules.specs.Calls.{Settings}
+use Rattle.rules.specs.Calls.{Settings, Op}
 use Rattle.rules.specs.Histories.{Diary, GoesBy, after}
 use Rattle.rules.specs.Marked.{idsOf}
 use Rattle.rules.proofs.Computing.{allRules}
@@ -76,6 +77,26 @@ noteMeanwhile =
 pub heard-next-time : GoesBy noteMeanwhile one
 unfolding allRules
 heard-next-time = refl
+
+-- "due ≤ now", by the keep-alive kind; "seen events below the event number"; "the all flag with reported_at < now"
+abbrev withSettings : ℕ → ℕ → KeepAlive → Bool → Op
+withSettings ms events kind all = call.report (record { now = instant ms; events = events; kind = kind; all = all })
+
+abbrev reporting : Diary
+reporting =
+    (withSettings 31000 0 Icd false, call.nothing)
+    ∷ (withSettings 1999 0 Icd true, call.nothing)
+    ∷ (withSettings 2000 0 Icd true, call.handed 1 5)
+    ∷ (call.complete 1 0, call.completed true false)
+    ∷ (withSettings 32000 4 Icd false, call.handed 1 5)
+    ∷ (call.complete 1 0, call.completed true false)
+    ∷ (withSettings 61999 4 Default false, call.nothing)
+    ∷ (withSettings 62000 4 Default false, call.handed 1 5)
+    ∷ []
+
+pub reported-so : GoesBy reporting one
+unfolding allRules
+reported-so = refl
 
 -- "A cancelled report is dropped under each outcome."
 abbrev cancelledReport : Diary
@@ -224,13 +245,15 @@ has-so = refl
 -- number stay."
 abbrev rounds : Diary
 rounds =
-    (call.round (at 31000) (0 ∷ []) (9 ∷ []), call.rounded 1 false (1 ∷ []))
-    ∷ (call.round (at 31000) (3 ∷ 0 ∷ 0 ∷ []) (9 ∷ 9 ∷ 9 ∷ []), call.rounded 1 true (2 ∷ 9 ∷ 9 ∷ []))
+    (call.round (at 31000) (0 ∷ 3 ∷ 0 ∷ []) (9 ∷ 9 ∷ 9 ∷ []), call.rounded 2 true (1 ∷ 2 ∷ 9 ∷ []))
     ∷ (call.statistics 1, call.stats 1 1 2)
     ∷ (call.new 5, call.number 5)
     ∷ (call.statistics 1, call.stats 0 0 0)
     ∷ []
 
-pub round-so : GoesBy rounds two
+abbrev shortRound : Diary
+shortRound = (call.round (at 31000) (0 ∷ []) (9 ∷ []), call.rounded 1 false (1 ∷ [])) ∷ []
+
+pub round-so : GoesBy rounds two × GoesBy shortRound two
 unfolding allRules
-round-so = refl
+round-so = (refl, refl)
