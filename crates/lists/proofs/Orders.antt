@@ -5,15 +5,15 @@ use mathlib.Core.Bool.{Bool, true, false, not, _&&_, _||_, and-true, and-false, 
 use mathlib.Core.List.{List, [], _∷_, _++_}
 use Prim.Native.Nat.{ℕ, zero, suc, _+_, _≤_, min}
 use native.Mathlib.Omega.{arith}
-use native.Mathlib.Nat.{zero-add, le-refl, le-of-suc-le-suc, not-suc-le-zero}
+use native.Mathlib.Nat.{le-refl, le-of-suc-le-suc, not-suc-le-zero}
 use borrow.Author.Tests.{le-leb, leb-true, lt-leb, leb-false, eqb-true, eq-eqb, lt-ltb, ltb-true, ltb-false, not-true}
-use lib.Dec.{eqb, leb, ltb}
+use lib.Dec.{eqb, leb}
 use lib.ListN.{length}
 use Rattle.lists.specs.Search.{one, some, count, changeFirst, firstBy, distinct, leastBy}
 use Rattle.lists.specs.Removal.{refilled, sweepFor, sweep, takeOut, takeOutNewest}
 use Rattle.lists.proofs.Bools.{split, clash, and-both, not-so}
 use Rattle.lists.proofs.Bools.{and-true as both-true}
-use Rattle.lists.proofs.Searches.{some-weaken}
+use Rattle.lists.proofs.Searches.{some-weaken, some-counted}
 use Rattle.lists.proofs.Removals.{length-refilled, count-refilled}
 
 -- ---- 1 for yes, 0 for no
@@ -43,6 +43,33 @@ leb-min a b n =
     (λ u. rw u (lt-leb (min a b) n (omega (arith, leb-false a n t, leb-false b n u))))))
 
 module _ {A : Type 0} where
+  -- ---- with no element, and with one more in front
+
+  pub count-nil : (p : A → Bool) → count p [] ≡ 0
+  unfolding count
+  count-nil p = refl
+
+  pub count-cons : (p : A → Bool) (x : A) (l : List A) → count p (x ∷ l) ≡ one (p x) + count p l
+  unfolding count
+  count-cons p x l = refl
+
+  pub some-nil : (p : A → Bool) → some p [] ≡ false
+  unfolding some
+  some-nil p = refl
+
+  pub some-cons : (p : A → Bool) (x : A) (l : List A) → some p (x ∷ l) ≡ (p x || some p l)
+  unfolding some
+  some-cons p x l = refl
+
+  -- where p holds of the one in front, that is the first, and the newest
+  pub in-front : (p : A → Bool) (d x : A) (l : List A) → p x ≡ true → firstBy p d (x ∷ l) ≡ x
+  unfolding firstBy
+  in-front p d x l h = rw (h, firstBy)
+
+  pub newest-out : (p : A → Bool) (x : A) (l : List A) → p x ≡ true → takeOutNewest p (x ∷ l) ≡ l
+  unfolding takeOutNewest
+  newest-out p x l h = rw (h, takeOutNewest)
+
   -- ---- counting
 
   -- where every element counts, the count is the length
@@ -61,15 +88,7 @@ module _ {A : Type 0} where
   unfolding count
   count-end p l x = omega (arith, count-append p l (x ∷ []))
 
-  -- there is one exactly where the count is not 0
-  pub some-counted : (p : A → Bool) (l : List A) → some p l ≡ ltb 0 (count p l)
-  unfolding some count
-  some-counted p [] = refl
-  some-counted p (x ∷ xs) =
-      split (p x)
-      (λ t. rw t (sym (lt-ltb 0 (1 + count p xs) (omega arith))))
-      (λ t. rw (t, zero-add (count p xs)) (some-counted p xs))
-
+  -- there is one where the count is not 0
   pub count-some : (p : A → Bool) (l : List A) → some p l ≡ true → 1 ≤ count p l
   count-some p l h = ltb-true 0 (count p l) (sym (some-counted p l) ∙ h)
 

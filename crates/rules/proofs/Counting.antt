@@ -1,6 +1,6 @@
 -- What one call does to the number of counted places, and a history: `Lives` with the test that always holds, call by call.
 -- Assumes nothing.
-use mathlib.Core.Path.{_≡_, refl}
+use mathlib.Core.Path.{_≡_, refl, sym, _∙_}
 use mathlib.Core.Bool.{Bool, true, false, cond, not, _&&_, _||_}
 use mathlib.Core.List.{List, [], _∷_}
 use mathlib.Core.Option.{Option, none}
@@ -11,7 +11,7 @@ use borrow.Author.Tests.{not-false}
 use Rattle.refusal.specs.declared.Refusal.{Refusal}
 use Rattle.lists.specs.Search.{one, some}
 use Rattle.lists.proofs.Bools.{split, or-neither}
-use Rattle.lists.proofs.Orders.{count-every}
+use Rattle.lists.proofs.Orders.{some-cons, count-every}
 use Rattle.subscription.specs.Life.{keeps}
 use Rattle.rules.specs.States.{State, hasId}
 use Rattle.rules.specs.Calls as call
@@ -90,9 +90,9 @@ step-counts op s t = go (refusal op s) refl
 -- and a history adds up
 pub run-counts : (ops : List Op) (s : State) → some isNew ops ≡ false
     → lives every (run ops s) + endings ops s ≡ lives every s + (admissions ops s + resumptions ops s)
-unfolding run total some
+unfolding run total
 run-counts [] s h = refl
 run-counts (op ∷ ops) s h =
-    let w = or-neither (isNew op) (some isNew ops) h in
+    let w = or-neither (isNew op) (some isNew ops) (sym (some-cons isNew op ops) ∙ h) in
     let rest = run-counts ops (step op s .state) (w .1) in
     omega (arith, step-counts op s (not-false _ (w .0)))

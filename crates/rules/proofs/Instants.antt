@@ -2,7 +2,7 @@
 -- The next instant is a least over the stored ones and the last instant: `Least` compares. That a retry is an instant, which the code has by its
 -- widths, holds on every history, since it is one when it is made.
 -- Assumes nothing.
-use mathlib.Core.Path.{_≡_, refl, ap}
+use mathlib.Core.Path.{_≡_, ap}
 use mathlib.Core.Bool.{true, false, not}
 use mathlib.Core.List.{List}
 use mathlib.Core.Logic.{_⊎_, inl, inr}
@@ -11,8 +11,7 @@ use native.Mathlib.Omega.{arith}
 use borrow.Author.Tests.{not-true, le-ltb}
 use lib.Dec.{leb}
 use lib.ListN.{length}
-use Rattle.lists.specs.Search.{count}
-use Rattle.lists.proofs.Orders.{none-count}
+use Rattle.lists.proofs.Orders.{count-nil, none-count}
 use Rattle.time.specs.declared.Instant.{Instant}
 use Rattle.time.specs.declared.KeepAlive.{KeepAlive}
 use Rattle.time.specs.Instants.{lastInstant}
@@ -38,14 +37,13 @@ fitting x h = le-ltb (lastInstant .ms) (x .retry .ms) h
 
 -- On every history from a fresh table each retry is an instant.
 pub retries-fit : (c : ℕ) (ops : List Op) → retriesFit (run ops (fresh c)) ≡ true
-unfolding count
 retries-fit c ops =
     let none =
     nobody-ever lateRetry
     (λ request id mark events now. fitting (priming request id mark events now) (omega (arith, priming-retry request id mark events now)))
     (λ request id mark events. fitting (resumed request id mark events) (omega (arith, resumed-retry request id mark events)))
     (λ x mark events now h. rw (opened-retry x mark events now) h)
-    (λ x o. fitting (closed x o) (closed-retry x o)) ops (fresh c) refl in
+    (λ x o. fitting (closed x o) (closed-retry x o)) ops (fresh c) (omega (arith, count-nil lateRetry)) in
     ap not (none-count lateRetry (run ops (fresh c) .stored) (omega arith))
 
 -- So there the above holds with no more to ask.

@@ -8,10 +8,10 @@ use Prim.Native.Nat.{ℕ, _+_, _≤_}
 use native.Mathlib.Omega.{arith}
 use borrow.Author.Tests.{leb-false, eqb-true}
 use lib.Dec.{eqb}
-use Rattle.lists.specs.Search.{one, some, count}
+use Rattle.lists.specs.Search.{one, some}
 use Rattle.lists.specs.Removal.{takeOutNewest}
 use Rattle.lists.proofs.Bools.{split, or-either, or-left, or-right}
-use Rattle.lists.proofs.Orders.{one-no, one-most, count-append, count-some, some-count, count-none, count-taken-newest}
+use Rattle.lists.proofs.Orders.{count-cons, some-cons, one-no, one-most, count-append, count-some, some-count, count-none, count-taken-newest}
 use Rattle.time.specs.declared.Instant.{Instant}
 use Rattle.changes.specs.Logs.{watermarkOf}
 use Rattle.subscription.specs.declared.Subscription.{Subscription}
@@ -40,7 +40,7 @@ newcomer s x id h e free j =
 
 module _ (s : State) (h : Sound s) (request : Request) (events : ℕ) (given : eqb (request .fabric) 0 ≡ false) (room : full s ≡ false) where
   pub add-sound : (now : Instant) → idLive (s .next) s ≡ false → Sound (added request events now s .state)
-  unfolding added count reportOpen some
+  unfolding added reportOpen
   add-sound now free =
       let x = priming request (s .next) (watermarkOf (s .log)) events now in
       let fabric = one-no (ap (λ f. eqb f 0) (priming-fabric request (s .next) (watermarkOf (s .log)) events now) ∙ given) in
@@ -52,8 +52,8 @@ module _ (s : State) (h : Sound s) (request : Request) (events : ℕ) (given : e
         log = h .log;
         ids = λ j. omega (arith, added-lives (hasId j) s request events now, newcomer s x (s .next) h (priming-id request (s .next) (watermarkOf (s .log)) events now) free j);
         fabrics = omega (arith, added-lives fabricZero s request events now, h .fabrics, fabric);
-        single = omega (arith, one-no prime, h .single);
-        reason = rw prime (h .reason);
+        single = omega (arith, count-cons isReport x (s .opens), one-no prime, h .single);
+        reason = rw (some-cons isReport x (s .opens), prime) (h .reason);
       }
 
   pub resume-sound : (id : ℕ) → idLive id s ≡ false → Sound (resumedTo id request events s .state)
@@ -75,7 +75,7 @@ module _ (s : State) (h : Sound s) (request : Request) (events : ℕ) (given : e
 
 handed-sound : (s : State) (at : Settings) → Sound s → reportOpen s ≡ false → some (ready at s) (s .stored) ≡ true
     → Sound (afterHandOut at s)
-unfolding count reportOpen some hasId
+unfolding reportOpen hasId
 handed-sound s at h shut found =
     let x = nextUp at s in
     let id = opened-id x (watermarkOf (s .log)) (at .events) (at .now) in
@@ -86,10 +86,12 @@ handed-sound s at h shut found =
       log = h .log;
       ids = λ j. omega (arith, reported-lives (hasId j) s at found, ap (λ i. one (eqb i j)) id, h .ids j);
       fabrics = omega (arith, reported-lives fabricZero s at found, h .fabrics);
-      single = omega (arith, one-most (openedIn at s x .reporting), count-none isReport (s .opens) shut);
+      single =
+          omega (arith, count-cons isReport (openedIn at s x) (s .opens), one-most (openedIn at s x .reporting), count-none isReport (s .opens) shut);
       reason =
           or-right (eqb (s .cancel) 0)
-          (or-left (some isReport (s .opens)) (opened-reporting x (watermarkOf (s .log)) (at .events) (at .now)));
+          (some-cons isReport (openedIn at s x) (s .opens)
+          ∙ or-left (some isReport (s .opens)) (opened-reporting x (watermarkOf (s .log)) (at .events) (at .now)));
     }
 
 pub report-sound : (s : State) (at : Settings) → Sound s → reportOpen s ≡ false → Sound (reported at s .state)

@@ -1,11 +1,12 @@
 -- A fresh table is well kept and every call keeps it so: number 7 never comes from a fresh table.
 -- A step refuses, and then nothing changes, or acts, and then `Keeping` and `Steps` have the case.
 -- Assumes nothing.
-use mathlib.Core.Path.{_≡_, refl}
+use mathlib.Core.Path.{_≡_}
 use mathlib.Core.Bool.{true, false, and-false}
 use mathlib.Core.List.{List, [], _∷_}
 use Prim.Native.Nat.{ℕ}
 use Rattle.lists.specs.Search.{some}
+use Rattle.lists.proofs.Orders.{some-nil, some-cons}
 use Rattle.rules.specs.States.{State, fresh, capacityFits, wellKept}
 use Rattle.rules.specs.Calls.{Op}
 use Rattle.rules.specs.Histories.{refusedBy}
@@ -30,10 +31,10 @@ run-well-kept (op ∷ ops) s h = run-well-kept ops (step op s .state) (step-well
 
 -- No answer of it is number 7.
 pub run-never-seven : (ops : List Op) (s : State) → wellKept s ≡ true → some (refusedBy 7) (answers ops s) ≡ false
-unfolding answers some
-run-never-seven [] s h = refl
+unfolding answers
+run-never-seven [] s h = some-nil (refusedBy 7)
 run-never-seven (op ∷ ops) s h =
-    rw (same-number op s 7, seven-exactly op s, h, and-false (takesState op))
+    rw (some-cons (refusedBy 7) (step op s .answer) (answers ops (step op s .state)), same-number op s 7, seven-exactly op s, h, and-false (takesState op))
     (run-never-seven ops (step op s .state) (step-well-kept op s h))
 
 -- Over every history from a fresh table the state is well kept.

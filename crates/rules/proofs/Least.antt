@@ -12,7 +12,7 @@ use lib.Dec.{leb}
 use lib.ListN.{length}
 use Rattle.lists.specs.Search.{some}
 use Rattle.lists.proofs.Bools.{split, or-left, or-neither}
-use Rattle.lists.proofs.Orders.{some-same, least-most}
+use Rattle.lists.proofs.Orders.{some-cons, some-same, least-most}
 use Rattle.time.specs.declared.Instant.{Instant}
 use Rattle.time.specs.declared.KeepAlive.{KeepAlive}
 use Rattle.time.specs.Instants.{lastInstant}
@@ -40,11 +40,11 @@ module _ (now : Instant) (events : ℕ) (kind : KeepAlive) (s : State) where
   -- by the last instant whoever is stored first is reportable
   first-come : (l : List Subscription) → 0 < length l → some lateRetry l ≡ false → lastInstant .ms ≤ now .ms
       → some (λ x. leb (nextFor x) (now .ms)) l ≡ true
-  unfolding some
   first-come [] h fit late = absurd (not-suc-le-zero h)
   first-come (x ∷ xs) h fit late =
-      let retry = ltb-false (lastInstant .ms) (x .retry .ms) (or-neither (lateRetry x) (some lateRetry xs) fit .0) in
-      or-left (some (λ x. leb (nextFor x) (now .ms)) xs)
+      let retry = ltb-false (lastInstant .ms) (x .retry .ms) (or-neither (lateRetry x) (some lateRetry xs) (sym (some-cons lateRetry x xs) ∙ fit) .0) in
+      some-cons (λ x. leb (nextFor x) (now .ms)) x xs
+      ∙ or-left (some (λ x. leb (nextFor x) (now .ms)) xs)
       (le-leb (nextFor x) (now .ms) (omega (arith, next-most x (changedFor s x) events kind retry)))
 
   pub before-last : now .ms < 18446744073709551615 → anyReportableIn now events kind s ≡ leb (nextInstantIn events kind s .ms) (now .ms)

@@ -7,10 +7,10 @@ use mathlib.Core.List.{_∷_}
 use Prim.Native.Nat.{ℕ, _+_}
 use native.Mathlib.Omega.{arith}
 use borrow.Author.Tests.{eq-eqb}
-use Rattle.lists.specs.Search.{one, some, count, firstBy}
-use Rattle.lists.specs.Removal.{takeOut, takeOutNewest}
-use Rattle.lists.proofs.Bools.{split}
-use Rattle.lists.proofs.Orders.{count-every, count-end, count-taken, count-taken-newest, count-swept}
+use Rattle.lists.specs.Search.{one, some, count}
+use Rattle.lists.specs.Removal.{takeOut}
+use Rattle.lists.proofs.Bools.{split, or-left}
+use Rattle.lists.proofs.Orders.{count-nil, count-cons, some-cons, in-front, newest-out, count-every, count-end, count-taken, count-taken-newest, count-swept}
 use Rattle.time.specs.declared.Instant.{Instant}
 use Rattle.changes.specs.Logs.{watermarkOf}
 use Rattle.subscription.specs.declared.Subscription.{Subscription}
@@ -51,8 +51,9 @@ lives-counted s = omega (arith, count-every (s .stored), count-every (s .opens))
 module _ (p : Subscription → Bool) (s : State) where
   pub added-lives : (request : Request) (events : ℕ) (now : Instant)
       → lives p (added request events now s .state) ≡ lives p s + one (p (priming request (s .next) (watermarkOf (s .log)) events now))
-  unfolding added count
-  added-lives request events now = omega arith
+  unfolding added
+  added-lives request events now =
+      omega (arith, count-cons p (priming request (s .next) (watermarkOf (s .log)) events now) (s .opens))
 
   pub resumed-lives : (id : ℕ) (request : Request) (events : ℕ)
       → lives p (resumedTo id request events s .state) ≡ lives p s + one (p (resumed request id (watermarkOf (s .log)) events))
@@ -62,8 +63,8 @@ module _ (p : Subscription → Bool) (s : State) where
   -- the one handed out is no longer what it was stored as, and is what it is as an open one
   pub reported-lives : (at : Settings) → some (ready at s) (s .stored) ≡ true
       → lives p (afterHandOut at s) + one (p (nextUp at s)) ≡ lives p s + one (p (openedIn at s (nextUp at s)))
-  unfolding count
-  reported-lives at h = omega (arith, count-taken p (ready at s) blank (s .stored) h)
+  reported-lives at h =
+      omega (arith, count-taken p (ready at s) blank (s .stored) h, count-cons p (openedIn at s (nextUp at s)) (s .opens))
 
   stored-after : (x : Subscription) (o : ℕ) → count p (storedAfter x o s) ≡ count p (s .stored) + cond (stays x o s) (one (p (closed x o))) 0
   stored-after x o =
@@ -85,8 +86,8 @@ module _ (p : Subscription → Bool) (s : State) where
   removed-lives choice reason = omega (arith, count-swept p (chosen choice) (s .stored))
 
   pub cleared-lives : lives p (clearedIn s .state) + count p (s .stored) ≡ lives p s
-  unfolding clearedIn count
-  cleared-lives = omega arith
+  unfolding clearedIn
+  cleared-lives = omega (arith, count-nil p)
 
 -- ---- a turn of a round: what is handed out is completed at once
 
@@ -97,14 +98,14 @@ module _ (at : Settings) (s : State) (h : some (ready at s) (s .stored) ≡ true
 
   -- the id finds the one that was just handed out
   pub turn-open : openWith (nextUp at s .id) (reported at s .state) ≡ openedIn at s (nextUp at s)
-  unfolding firstBy
-  turn-open = rw (handed-state at s h, handed-id)
+  turn-open = rw (handed-state at s h) (in-front (hasId (nextUp at s .id)) blank (openedIn at s (nextUp at s)) (s .opens) handed-id)
 
   pub turn-found : some (hasId (nextUp at s .id)) (reported at s .state .opens) ≡ true
-  unfolding some
-  turn-found = rw (handed-state at s h, handed-id)
+  turn-found =
+      rw (handed-state at s h, some-cons (hasId (nextUp at s .id)) (openedIn at s (nextUp at s)) (s .opens))
+      (or-left (some (hasId (nextUp at s .id)) (s .opens)) handed-id)
 
   -- and after it the same ones are open as before
   pub turn-opens : (o : ℕ) → completedIn (nextUp at s .id) o (reported at s .state) .state .opens ≡ s .opens
-  unfolding completedIn takeOutNewest
-  turn-opens o = rw (handed-state at s h, handed-id)
+  unfolding completedIn
+  turn-opens o = rw (handed-state at s h) (newest-out (hasId (nextUp at s .id)) (openedIn at s (nextUp at s)) (s .opens) handed-id)

@@ -10,9 +10,9 @@ use Prim.Native.Nat.{ℕ}
 use native.Mathlib.Omega.{arith}
 use borrow.Author.Tests.{not-false}
 use Rattle.refusal.specs.declared.Refusal.{Refusal}
-use Rattle.lists.specs.Search.{some, count}
+use Rattle.lists.specs.Search.{some}
 use Rattle.lists.proofs.Bools.{split}
-use Rattle.lists.proofs.Orders.{one-no, none-one, count-taken}
+use Rattle.lists.proofs.Orders.{count-nil, one-no, none-one, count-taken}
 use Rattle.time.specs.declared.Instant.{Instant}
 use Rattle.changes.specs.Logs.{watermarkOf}
 use Rattle.subscription.specs.declared.Subscription.{Subscription}
@@ -63,8 +63,8 @@ module _ (p : Subscription → Bool)
       (λ e. rw (e, roundFrom) h)
 
   nobody-acts : (op : Op) (s : State) → firstOf (objections op s) ≡ none → lives p s ≡ 0 → lives p (act op s .state) ≡ 0
-  unfolding act objections roundIn notedIn purgedIn count
-  nobody-acts (call.new capacity) s e h = refl
+  unfolding act objections roundIn notedIn purgedIn
+  nobody-acts (call.new capacity) s e h = omega (arith, count-nil p)
   nobody-acts (call.add request events now) s e h =
       omega (arith, added-lives p s request events now, one-no (born request (s .next) (watermarkOf (s .log)) events now))
   nobody-acts (call.resume id request events) s e h =

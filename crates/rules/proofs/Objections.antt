@@ -1,7 +1,7 @@
 -- What the objections of a call tell: where it is not refused, none of them holds; and none of them has the number 7, which stands before them.
 -- Assumes nothing.
 use mathlib.Core.Path.{_≡_, refl}
-use mathlib.Core.Bool.{Bool, true, false, not, _&&_}
+use mathlib.Core.Bool.{Bool, true, false, not, _&&_, _||_}
 use mathlib.Core.List.{List, [], _∷_}
 use mathlib.Core.Option.{none}
 use Prim.Native.Nat.{ℕ}
@@ -29,19 +29,20 @@ pub no-objection : (op : Op) (s : State) → refusal op s ≡ none → firstOf (
 unfolding refusal
 no-objection op s e = unobjected (takesState op && not (wellKept s)) NotWellKept (objections op s) e .1
 
--- the reason of an objection has the number 7
-abbrev ofSeven : Objection → Bool
-ofSeven o = eqb (numberOf (o .1)) 7
+-- some objection has the number 7
+abbrev ofSeven : List Objection → Bool
+ofSeven [] = false
+ofSeven ((holds, why) ∷ rest) = eqb (numberOf why) 7 || ofSeven rest
 
-pub no-seven : (l : List Objection) → some ofSeven l ≡ false → numbered 7 (firstOf l) ≡ false
-unfolding firstOf some
+pub no-seven : (l : List Objection) → ofSeven l ≡ false → numbered 7 (firstOf l) ≡ false
+unfolding firstOf
 no-seven [] h = refl
-no-seven ((true, why) ∷ rest) h = or-neither (eqb (numberOf why) 7) (some ofSeven rest) h .0
-no-seven ((false, why) ∷ rest) h = no-seven rest (or-neither (eqb (numberOf why) 7) (some ofSeven rest) h .1)
+no-seven ((true, why) ∷ rest) h = or-neither (eqb (numberOf why) 7) (ofSeven rest) h .0
+no-seven ((false, why) ∷ rest) h = no-seven rest (or-neither (eqb (numberOf why) 7) (ofSeven rest) h .1)
 
 -- each reason in the table of objections has another number
-pub other-numbers : (op : Op) (s : State) → some ofSeven (objections op s) ≡ false
-unfolding objections some
+pub other-numbers : (op : Op) (s : State) → ofSeven (objections op s) ≡ false
+unfolding objections
 other-numbers (call.new capacity) s = refl
 other-numbers (call.add request events now) s = refl
 other-numbers (call.resume id request events) s = refl

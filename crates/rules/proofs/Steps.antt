@@ -8,8 +8,9 @@ use Prim.Native.Nat.{ℕ}
 use native.Mathlib.Omega.{arith}
 use lib.Dec.{eqb, ltb}
 use lib.ListN.{length}
-use Rattle.lists.specs.Search.{some, count}
+use Rattle.lists.specs.Search.{some}
 use Rattle.lists.proofs.Bools.{split, and-both, or-right}
+use Rattle.lists.proofs.Orders.{count-nil}
 use Rattle.lists.proofs.Searches.{some-weaken}
 use Rattle.changes.specs.declared.ChangedAttrs.{ChangedAttrs}
 use Rattle.changes.specs.Logs.{kept}
@@ -57,7 +58,7 @@ with-report true n h = refl
 with-report false n h = h
 
 pub clear-sound : (s : State) → Sound s → Sound (clearedIn s .state)
-unfolding clearedIn reportOpen count
+unfolding clearedIn reportOpen
 clear-sound s h =
     record {
       capacity = h .capacity;
@@ -127,15 +128,14 @@ round-sound at (o ∷ os) t h shut =
 -- ---- every call
 
 pub fresh-sound : (c : ℕ) → capacityFits c ≡ true → Sound (fresh c)
-unfolding count reportOpen some
 fresh-sound c h =
     record {
       capacity = h;
-      room = omega arith;
+      room = omega (arith, count-nil every);
       log = fresh-kept;
-      ids = λ j. omega arith;
-      fabrics = refl;
-      single = omega arith;
+      ids = λ j. omega (arith, count-nil (hasId j));
+      fabrics = omega (arith, count-nil fabricZero);
+      single = omega (arith, count-nil isReport);
       reason = refl;
     }
 
