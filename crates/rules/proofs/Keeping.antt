@@ -44,13 +44,14 @@ module _ (s : State) (h : Sound s) (request : Request) (events : ℕ) (given : e
   add-sound now free =
       let x = priming request (s .next) (watermarkOf (s .log)) events now in
       let fabric = one-no (ap (λ f. eqb f 0) (priming-fabric request (s .next) (watermarkOf (s .log)) events now) ∙ given) in
+      let id = priming-id request (s .next) (watermarkOf (s .log)) events now in
       let prime = priming-reporting request (s .next) (watermarkOf (s .log)) events now in
       record {
         capacity = h .capacity;
         room =
             omega (arith, added-lives every s request events now, leb-false (s .capacity) (counted s) room, lives-counted s);
         log = h .log;
-        ids = λ j. omega (arith, added-lives (hasId j) s request events now, newcomer s x (s .next) h (priming-id request (s .next) (watermarkOf (s .log)) events now) free j);
+        ids = λ j. omega (arith, added-lives (hasId j) s request events now, newcomer s x (s .next) h id free j);
         fabrics = omega (arith, added-lives fabricZero s request events now, h .fabrics, fabric);
         single = omega (arith, count-cons isReport x (s .opens), one-no prime, h .single);
         reason = rw (some-cons isReport x (s .opens), prime) (h .reason);

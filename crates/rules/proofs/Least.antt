@@ -42,7 +42,8 @@ module _ (now : Instant) (events : ℕ) (kind : KeepAlive) (s : State) where
       → some (λ x. leb (nextFor x) (now .ms)) l ≡ true
   first-come [] h fit late = absurd (not-suc-le-zero h)
   first-come (x ∷ xs) h fit late =
-      let retry = ltb-false (lastInstant .ms) (x .retry .ms) (or-neither (lateRetry x) (some lateRetry xs) (sym (some-cons lateRetry x xs) ∙ fit) .0) in
+      let fits = or-neither (lateRetry x) (some lateRetry xs) (sym (some-cons lateRetry x xs) ∙ fit) .0 in
+      let retry = ltb-false (lastInstant .ms) (x .retry .ms) fits in
       some-cons (λ x. leb (nextFor x) (now .ms)) x xs
       ∙ or-left (some (λ x. leb (nextFor x) (now .ms)) xs)
       (le-leb (nextFor x) (now .ms) (omega (arith, next-most x (changedFor s x) events kind retry)))

@@ -18,3 +18,5 @@ pub mod Counts
 pub mod Counting
 pub mod Examples
 pub mod Refusing
+pub mod Rounds
+pub mod Turns

@@ -4,12 +4,10 @@
 use mathlib.Core.Path.{_≡_, refl}
 use mathlib.Core.Bool.{Bool, true, false, cond}
 use mathlib.Core.List.{List, [], _∷_}
-use mathlib.Core.Option.{Option, none}
-use mathlib.Core.Option.{some as just}
+use mathlib.Core.Option.{none}
 use Prim.Native.Nat.{ℕ}
 use native.Mathlib.Omega.{arith}
 use borrow.Author.Tests.{not-false}
-use Rattle.refusal.specs.declared.Refusal.{Refusal}
 use Rattle.lists.specs.Search.{some}
 use Rattle.lists.proofs.Bools.{split}
 use Rattle.lists.proofs.Orders.{count-nil, one-no, none-one, count-taken}
@@ -21,7 +19,8 @@ use Rattle.subscription.specs.Life.{blank, priming, resumed, opened, closed}
 use Rattle.rules.specs.States.{State, hasId}
 use Rattle.rules.specs.Calls as call
 use Rattle.rules.specs.Calls.{Settings, Op}
-use Rattle.rules.specs.Machine.{firstOf, objections, refusal, notedIn, ready, reported, openWith, completedIn, purgedIn, Turn, turned, roundFrom, roundIn, act, stepBy, step, run}
+use Rattle.rules.specs.Machine.{firstOf, objections, notedIn, ready, reported, openWith, completedIn, purgedIn, Turn, turned, roundFrom, roundIn, act, step, run}
+use Rattle.rules.proofs.Refusals.{step-either}
 use Rattle.rules.proofs.Objections.{unobjected, no-objection}
 use Rattle.rules.specs.Counts.{nextUp}
 use Rattle.rules.proofs.Lives.{lives, stays, handed-state, added-lives, resumed-lives, reported-lives, completed-lives, removed-lives, cleared-lives, turn-found}
@@ -85,12 +84,7 @@ module _ (p : Subscription → Bool)
   nobody-acts (call.round at outcomes ids) s e h = nobody-turned at outcomes _ h
 
   nobody-stepped : (op : Op) (s : State) → lives p s ≡ 0 → lives p (step op s .state) ≡ 0
-  unfolding step
-  nobody-stepped op s h = go (refusal op s) refl
-    where
-      go : (r : Option Refusal) → refusal op s ≡ r → lives p (stepBy r op s .state) ≡ 0
-      go none e = nobody-acts op s (no-objection op s e) h
-      go (just why) e = h
+  nobody-stepped op s h = step-either (λ r. lives p (r .state) ≡ 0) op s (λ e. nobody-acts op s (no-objection op s e) h) (λ why e. h)
 
   -- over every history
   pub nobody-ever : (ops : List Op) (s : State) → lives p s ≡ 0 → lives p (run ops s) ≡ 0

@@ -12,7 +12,7 @@ use Rattle.rules.specs.States.{State, wellKept}
 use Rattle.rules.specs.Calls as call
 use Rattle.rules.specs.Calls.{Op}
 use Rattle.rules.specs.Histories.{numbered, refusedBy}
-use Rattle.rules.specs.Machine.{firstOf, objections, takesState, refusal, outcome, act, stepBy, step}
+use Rattle.rules.specs.Machine.{Outcome, firstOf, objections, takesState, refusal, outcome, act, stepBy, step}
 use Rattle.rules.proofs.Objections.{no-seven, other-numbers, act-unrefused}
 
 -- A refused call answers its refusal and leaves the state as it was given.
@@ -24,6 +24,16 @@ refused-alters-nothing op s why e = rw e
 pub unrefused-acts : (op : Op) (s : State) → refusal op s ≡ none → step op s ≡ act op s
 unfolding step
 unrefused-acts op s e = rw e
+
+-- So what holds after every act, and of every state with a refusal, holds after every step.
+pub step-either : (P : Outcome → Type 0) (op : Op) (s : State) → (refusal op s ≡ none → P (act op s))
+    → ((why : Refusal) → refusal op s ≡ just why → P (outcome (call.refused why) s)) → P (step op s)
+unfolding step
+step-either P op s acts refuses = go (refusal op s) refl
+  where
+    go : (r : Option Refusal) → refusal op s ≡ r → P (stepBy r op s)
+    go none e = acts e
+    go (just why) e = refuses why e
 
 -- Number 7 is given exactly where the call takes a state and the state is not well kept.
 pub seven-exactly : (op : Op) (s : State) → numbered 7 (refusal op s) ≡ (takesState op && not (wellKept s))

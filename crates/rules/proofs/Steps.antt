@@ -19,16 +19,15 @@ use Rattle.subscription.specs.declared.Choice.{Choice}
 use Rattle.subscription.specs.Choices.{chosen}
 use Rattle.rules.specs.States.{State, fresh, capacityFits, isReport, reportOpen, hasId, fabricZero}
 use Rattle.rules.specs.Calls.{Settings, Op}
-use Rattle.rules.specs.Machine.{firstOf, objections, refusal, roundIn, act, stepBy, step, notedIn, ready, reported, completedIn, cancels, removed, clearedIn, leastSeen, purgedIn, Turn, turned, roundFrom}
+use Rattle.rules.specs.Machine.{firstOf, objections, roundIn, act, step, notedIn, ready, reported, completedIn, cancels, removed, clearedIn, leastSeen, purgedIn, Turn, turned, roundFrom}
 use Rattle.rules.specs.Counts.{nextUp}
 use Rattle.rules.proofs.Lives.{every, removed-lives, cleared-lives, turn-found, turn-opens}
 use Rattle.rules.proofs.Sound.{Sound}
-use mathlib.Core.Option.{Option, none}
-use mathlib.Core.Option.{some as just}
+use mathlib.Core.Option.{none}
 use borrow.Author.Tests.{not-false}
-use Rattle.refusal.specs.declared.Refusal.{Refusal}
 use Rattle.changes.proofs.Promises.{fresh-kept}
 use Rattle.rules.specs.Calls as call
+use Rattle.rules.proofs.Refusals.{step-either}
 use Rattle.rules.proofs.Objections.{unobjected, no-objection}
 use Rattle.rules.proofs.Keeping.{add-sound, resume-sound, report-sound, complete-sound}
 
@@ -110,7 +109,7 @@ pub turn-sound : (s : State) (at : Settings) (o : ℕ) → Sound s → reportOpe
 turn-sound s at o h shut found =
     complete-sound (reported at s .state) (nextUp at s .id) o (report-sound s at h shut) (turn-found at s found)
 
-turn-shut : (s : State) (at : Settings) (o : ℕ) → reportOpen s ≡ false → some (ready at s) (s .stored) ≡ true
+pub turn-shut : (s : State) (at : Settings) (o : ℕ) → reportOpen s ≡ false → some (ready at s) (s .stored) ≡ true
     → reportOpen (completedIn (nextUp at s .id) o (reported at s .state) .state) ≡ false
 unfolding reportOpen
 turn-shut s at o shut found = rw (turn-opens at s found o) shut
@@ -167,9 +166,4 @@ act-sound (call.hasSubscription fabric peer) s e h = h
 act-sound (call.round at outcomes ids) s e h = round-sound at outcomes _ h (unobjected _ _ _ (unobjected _ _ _ e .1) .0)
 
 pub step-sound : (op : Op) (s : State) → Sound s → Sound (step op s .state)
-unfolding step
-step-sound op s h = go (refusal op s) refl
-  where
-    go : (r : Option Refusal) → refusal op s ≡ r → Sound (stepBy r op s .state)
-    go none e = act-sound op s (no-objection op s e) h
-    go (just why) e = h
+step-sound op s h = step-either (λ r. Sound (r .state)) op s (λ e. act-sound op s (no-objection op s e) h) (λ why e. h)

@@ -71,7 +71,11 @@ nextUp at s = firstBy (ready at s) blank (s .stored)
 unfoldable pub roundEnds : Settings → List ℕ → State → ℕ
 roundEnds at [] s = 0
 roundEnds at (o ∷ os) s =
-    elim (some (ready at s) (s .stored)) [ true ↦ one (drops (nextUp at s .id) o (reported at s .state)) + roundEnds at os (completedIn (nextUp at s .id) o (reported at s .state) .state) | false ↦ 0 ]
+    elim (some (ready at s) (s .stored)) [
+      | true ↦ one (drops (nextUp at s .id) o (reported at s .state))
+          + roundEnds at os (completedIn (nextUp at s .id) o (reported at s .state) .state)
+      | false ↦ 0
+    ]
 
 -- a completion ends what it drops, a removal the stored ones that the choice takes, clear all stored ones. A report that was cancelled ends at
 -- its completion.

@@ -4,3 +4,4 @@ pub mod Calls
 pub mod Machine
 pub mod Histories
 pub mod Counts
+pub mod Rounds
