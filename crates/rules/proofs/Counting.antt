@@ -17,8 +17,8 @@ use Rattle.rules.specs.States.{State, hasId}
 use Rattle.rules.specs.Calls as call
 use Rattle.rules.specs.Calls.{Settings, Op}
 use Rattle.rules.specs.Histories.{isNew}
-use Rattle.rules.specs.Machine.{firstOf, objections, takesState, refusal, notedIn, ready, reported, openWith, cancelled, completedIn, purgedIn, Turn, turned, roundFrom, roundIn, act, stepBy, step, run}
-use Rattle.rules.specs.Counts.{admits, resumes, drops, nextUp, roundEnds, ends, unless, total, admissions, resumptions, endings}
+use Rattle.rules.specs.Machine.{nextUp, firstOf, objections, takesState, refusal, notedIn, ready, reported, openWith, cancelled, completedIn, purgedIn, Turn, turned, roundFrom, roundIn, act, stepBy, step, run}
+use Rattle.rules.specs.Counts.{admits, resumes, drops, roundEnds, ends, unless, total, admissions, resumptions, endings}
 use Rattle.rules.proofs.Objections.{unobjected, no-objection}
 use Rattle.rules.proofs.Lives.{lives, every, handed-state, added-lives, resumed-lives, reported-lives, completed-lives, removed-lives, cleared-lives, turn-found}
 

@@ -20,9 +20,8 @@ use Rattle.subscription.specs.Life.{blank, priming, resumed, closed}
 use Rattle.subscription.proofs.Laws.{priming-id, priming-fabric, priming-reporting, resumed-id, resumed-fabric, opened-id, opened-fabric, opened-reporting, closed-id, closed-fabric}
 use Rattle.rules.specs.States.{State, counted, liveOnes, isReport, reportOpen, hasId, idLive, fabricZero}
 use Rattle.rules.specs.Calls.{Settings}
-use Rattle.rules.specs.Machine.{full, added, resumedTo, ready, openedIn, reported, openWith, completedIn}
-use Rattle.rules.specs.Counts.{nextUp}
-use Rattle.rules.proofs.Lives.{lives, every, stays, afterHandOut, handed-state, lives-counted, added-lives, resumed-lives, reported-lives, completed-lives}
+use Rattle.rules.specs.Machine.{stays, nextUp, full, added, resumedTo, ready, openedIn, reported, openWith, completedIn}
+use Rattle.rules.proofs.Lives.{lives, every, afterHandOut, handed-state, lives-counted, added-lives, resumed-lives, reported-lives, completed-lives}
 use Rattle.rules.proofs.Sound.{Sound}
 
 -- ---- admission

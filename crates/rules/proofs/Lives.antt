@@ -2,7 +2,7 @@
 -- this counts places; with the test for an id it says who is live.
 -- Assumes nothing.
 use mathlib.Core.Path.{_≡_}
-use mathlib.Core.Bool.{Bool, true, cond, not, _&&_}
+use mathlib.Core.Bool.{Bool, true, cond, _&&_}
 use mathlib.Core.List.{_∷_}
 use Prim.Native.Nat.{ℕ, _+_}
 use native.Mathlib.Omega.{arith}
@@ -16,13 +16,12 @@ use Rattle.changes.specs.Logs.{watermarkOf}
 use Rattle.subscription.specs.declared.Subscription.{Subscription}
 use Rattle.subscription.specs.declared.Choice.{Choice}
 use Rattle.subscription.specs.declared.Request.{Request}
-use Rattle.subscription.specs.Life.{blank, priming, resumed, closed, keeps}
+use Rattle.subscription.specs.Life.{blank, priming, resumed, closed}
 use Rattle.subscription.specs.Choices.{chosen}
 use Rattle.subscription.proofs.Laws.{opened-id}
 use Rattle.rules.specs.States.{State, counted, hasId}
 use Rattle.rules.specs.Calls.{Settings}
-use Rattle.rules.specs.Counts.{nextUp}
-use Rattle.rules.specs.Machine.{withOnes, added, resumedTo, ready, openedIn, reported, openWith, cancelled, storedAfter, completedIn, removed, clearedIn}
+use Rattle.rules.specs.Machine.{stays, nextUp, withOnes, added, resumedTo, ready, openedIn, reported, openWith, storedAfter, completedIn, removed, clearedIn}
 
 -- of how many live ones the test holds
 abbrev pub lives : (Subscription → Bool) → State → ℕ
@@ -31,10 +30,6 @@ lives p s = count p (s .stored) + count p (s .opens)
 -- the test that always holds
 abbrev pub every : Subscription → Bool
 every x = true
-
--- is the open one stored again
-abbrev pub stays : Subscription → ℕ → State → Bool
-stays x o s = not (cancelled x s) && keeps x o
 
 -- the state after a hand-out
 abbrev pub afterHandOut : Settings → State → State

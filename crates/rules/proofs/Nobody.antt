@@ -19,11 +19,10 @@ use Rattle.subscription.specs.Life.{blank, priming, resumed, opened, closed}
 use Rattle.rules.specs.States.{State, hasId}
 use Rattle.rules.specs.Calls as call
 use Rattle.rules.specs.Calls.{Settings, Op}
-use Rattle.rules.specs.Machine.{firstOf, objections, notedIn, ready, reported, openWith, completedIn, purgedIn, Turn, turned, roundFrom, roundIn, act, step, run}
+use Rattle.rules.specs.Machine.{stays, nextUp, firstOf, objections, notedIn, ready, reported, openWith, completedIn, purgedIn, Turn, turned, roundFrom, roundIn, act, step, run}
 use Rattle.rules.proofs.Refusals.{step-either}
 use Rattle.rules.proofs.Objections.{unobjected, no-objection}
-use Rattle.rules.specs.Counts.{nextUp}
-use Rattle.rules.proofs.Lives.{lives, stays, handed-state, added-lives, resumed-lives, reported-lives, completed-lives, removed-lives, cleared-lives, turn-found}
+use Rattle.rules.proofs.Lives.{lives, handed-state, added-lives, resumed-lives, reported-lives, completed-lives, removed-lives, cleared-lives, turn-found}
 
 module _ (p : Subscription → Bool)
     (born : (request : Request) (id mark events : ℕ) (now : Instant) → p (priming request id mark events now) ≡ false)

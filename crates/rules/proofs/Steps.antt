@@ -19,8 +19,7 @@ use Rattle.subscription.specs.declared.Choice.{Choice}
 use Rattle.subscription.specs.Choices.{chosen}
 use Rattle.rules.specs.States.{State, fresh, capacityFits, isReport, reportOpen, hasId, fabricZero}
 use Rattle.rules.specs.Calls.{Settings, Op}
-use Rattle.rules.specs.Machine.{firstOf, objections, roundIn, act, step, notedIn, ready, reported, completedIn, cancels, removed, clearedIn, leastSeen, purgedIn, Turn, turned, roundFrom}
-use Rattle.rules.specs.Counts.{nextUp}
+use Rattle.rules.specs.Machine.{nextUp, firstOf, objections, roundIn, act, step, notedIn, ready, reported, completedIn, cancels, removed, clearedIn, leastSeen, purgedIn, Turn, turned, roundFrom}
 use Rattle.rules.proofs.Lives.{every, removed-lives, cleared-lives, turn-found, turn-opens}
 use Rattle.rules.proofs.Sound.{Sound}
 use mathlib.Core.Option.{none}

@@ -16,9 +16,8 @@ use Rattle.lists.proofs.Orders.{some-cons}
 use Rattle.rules.specs.States.{State, reportOpen, wellKept}
 use Rattle.rules.specs.Calls as call
 use Rattle.rules.specs.Calls.{Settings, Op}
-use Rattle.rules.specs.Counts.{nextUp}
 use Rattle.rules.specs.Rounds.{callsOf, handedId, handedIds}
-use Rattle.rules.specs.Machine.{firstOf, badOutcome, objections, takesState, refusal, outcome, ready, reported, completedIn, Turn, turned, roundFrom, act, step, run, answers}
+use Rattle.rules.specs.Machine.{nextUp, firstOf, badOutcome, objections, takesState, refusal, outcome, ready, reported, completedIn, Turn, turned, roundFrom, act, step, run, answers}
 use Rattle.rules.proofs.Refusals.{unrefused-acts}
 use Rattle.rules.proofs.Lives.{turn-found}
 use Rattle.rules.proofs.Sound.{Sound, sound-kept}

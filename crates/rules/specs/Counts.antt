@@ -8,14 +8,13 @@ use mathlib.Core.Option.{some as just}
 use Prim.Native.Nat.{ℕ, _+_}
 use lib.ListN.{length}
 use Rattle.refusal.specs.declared.Refusal.{Refusal}
-use Rattle.lists.specs.Search.{one, some, count, firstBy}
-use Rattle.subscription.specs.Life.{blank, keeps}
+use Rattle.lists.specs.Search.{one, some, count}
+use Rattle.subscription.specs.Life.{keeps}
 use Rattle.subscription.specs.Choices.{chosen}
-use Rattle.subscription.specs.declared.Subscription.{Subscription}
 use Rattle.rules.specs.States.{State}
 use Rattle.rules.specs.Calls as call
 use Rattle.rules.specs.Calls.{Settings, Op}
-use Rattle.rules.specs.Machine.{refusal, ready, reported, openWith, cancelled, completedIn, step}
+use Rattle.rules.specs.Machine.{refusal, ready, nextUp, reported, openWith, cancelled, completedIn, step}
 
 -- ---- one call
 
@@ -62,10 +61,6 @@ resumes (call.round at outcomes ids) s = 0
 -- "3 failed and 4 abandoned: dropped."; "if never reported, it is dropped instead"; "A cancelled report is dropped under each outcome."
 abbrev pub drops : ℕ → ℕ → State → Bool
 drops id o s = cancelled (openWith id s) s || not (keeps (openWith id s) o)
-
--- the one that is handed out next
-abbrev pub nextUp : Settings → State → Subscription
-nextUp at s = firstBy (ready at s) blank (s .stored)
 
 -- a round "reports and completes", and each completion may drop
 unfoldable pub roundEnds : Settings → List ℕ → State → ℕ

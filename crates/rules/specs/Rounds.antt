@@ -7,8 +7,7 @@ use Rattle.lists.specs.Search.{some}
 use Rattle.rules.specs.States.{State}
 use Rattle.rules.specs.Calls as call
 use Rattle.rules.specs.Calls.{Settings, Op, Answer}
-use Rattle.rules.specs.Machine.{ready, reported, completedIn}
-use Rattle.rules.specs.Counts.{nextUp}
+use Rattle.rules.specs.Machine.{ready, nextUp, reported, completedIn}
 
 -- a report and its completion for each outcome, while somebody is reportable
 unfoldable pub callsOf : Settings → List ℕ → State → List Op
