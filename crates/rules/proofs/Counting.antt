@@ -1,4 +1,5 @@
--- What one call does to the number of counted places, and a history: `Lives` with the test that always holds, call by call.
+-- What one call does to the number of counted places, and a history: `Lives` with the test that always holds, call by call. A hand-out and a
+-- completion that keeps move a subscription from one list to the other, and only what is dropped, removed or cleared goes.
 -- Assumes nothing.
 use mathlib.Core.Path.{_≡_, refl, sym, _∙_}
 use mathlib.Core.Bool.{Bool, true, false, cond, not, _&&_, _||_}

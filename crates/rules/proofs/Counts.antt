@@ -4,7 +4,7 @@
 use mathlib.Core.Path.{_≡_}
 use mathlib.Core.Bool.{false}
 use mathlib.Core.List.{List}
-use Prim.Native.Nat.{ℕ, _+_, _-_}
+use Prim.Native.Nat.{ℕ, _+_, _-_, _≤_}
 use native.Mathlib.Omega.{arith}
 use Rattle.lists.specs.Search.{some}
 use Rattle.rules.specs.States.{State, fresh, counted}
@@ -25,3 +25,9 @@ pub places-from-fresh : (c : ℕ) (ops : List Op) → some isNew ops ≡ false
     → counted (run ops (fresh c)) ≡ admissions ops (fresh c) + resumptions ops (fresh c) - endings ops (fresh c)
 unfolding counted
 places-from-fresh c ops h = omega (arith, places-add-up ops (fresh c) h)
+
+-- There are never more endings than that.
+pub endings-most : (c : ℕ) (ops : List Op) → some isNew ops ≡ false
+    → endings ops (fresh c) ≤ admissions ops (fresh c) + resumptions ops (fresh c)
+unfolding counted
+endings-most c ops h = omega (arith, places-add-up ops (fresh c) h)

@@ -1,7 +1,7 @@
 -- A fresh table is well kept and every call keeps it so: number 7 never comes from a fresh table.
 -- A step refuses, and then nothing changes, or acts, and then `Keeping` and `Steps` have the case.
 -- Assumes nothing.
-use mathlib.Core.Path.{_≡_}
+use mathlib.Core.Path.{_≡_, _∙_}
 use mathlib.Core.Bool.{true, false, and-false}
 use mathlib.Core.List.{List, [], _∷_}
 use Prim.Native.Nat.{ℕ}
@@ -34,7 +34,8 @@ pub run-never-seven : (ops : List Op) (s : State) → wellKept s ≡ true → so
 unfolding answers
 run-never-seven [] s h = some-nil (refusedBy 7)
 run-never-seven (op ∷ ops) s h =
-    rw (some-cons (refusedBy 7) (step op s .answer) (answers ops (step op s .state)), same-number op s 7, seven-exactly op s, h, and-false (takesState op))
+    some-cons (refusedBy 7) (step op s .answer) (answers ops (step op s .state))
+    ∙ rw (same-number op s 7, seven-exactly op s, h, and-false (takesState op))
     (run-never-seven ops (step op s .state) (step-well-kept op s h))
 
 -- Over every history from a fresh table the state is well kept.
