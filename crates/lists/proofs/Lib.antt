@@ -2,3 +2,4 @@ pub mod Bools
 pub mod Searches
 pub mod Removals
 pub mod Arrays
+pub mod Orders

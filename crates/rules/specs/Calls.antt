@@ -44,7 +44,7 @@ pub data Answer : Type 0 where
   handed : (id rx : ℕ) → Answer
   -- complete: kept, and "the failed flag"
   completed : (stays failed : Bool) → Answer
-  -- note, remove and clear: does it wake; and a question: yes or no
+  -- remove and clear: does it wake ("Notes always wake."); and a question: yes or no
   yesNo : Bool → Answer
   instant : Instant → Answer
   keepAlive : Option Instant → Answer

@@ -2,3 +2,6 @@ pub mod Marked
 pub mod States
 pub mod Calls
 pub mod Machine
+pub mod Histories
+pub mod Counts
+pub mod Rounds

@@ -4,7 +4,7 @@ use mathlib.Core.Bool.{Bool, true, false, cond, not, _&&_, _||_}
 use mathlib.Core.List.{List, [], _∷_, _++_}
 use mathlib.Core.Option.{Option, none}
 use mathlib.Core.Option.{some as just}
-use Prim.Native.Nat.{ℕ, zero, suc, _+_, _-_, _%_, _^_, max}
+use Prim.Native.Nat.{ℕ, _+_, _-_, _%_, _^_, max}
 use lib.Dec.{eqb, leb, ltb}
 use lib.ListN.{length, set}
 use Rattle.lists.specs.Search.{some, count, firstBy, leastBy}
@@ -156,13 +156,17 @@ ready at s x = reportable x (at .now) (changedFor s x) (at .events) (at .kind) (
 abbrev pub openedIn : Settings → State → Subscription → Subscription
 openedIn at s x = opened x (watermarkOf (s .log)) (at .events) (at .now)
 
+-- "the first reportable stored subscription"
+abbrev pub nextUp : Settings → State → Subscription
+nextUp at s = firstBy (ready at s) blank (s .stored)
+
 -- "Report hands out the first reportable stored subscription by swap removal, or answers Nothing."
 unfoldable pub reported : Settings → State → Outcome
 reported at s =
     cond (some (ready at s) (s .stored))
     (outcome
-    (call.handed (firstBy (ready at s) blank (s .stored) .id) (firstBy (ready at s) blank (s .stored) .rx))
-    (withOnes s (takeOut (ready at s) (s .stored)) (openedIn at s (firstBy (ready at s) blank (s .stored)) ∷ s .opens)))
+    (call.handed (nextUp at s .id) (nextUp at s .rx))
+    (withOnes s (takeOut (ready at s) (s .stored)) (openedIn at s (nextUp at s) ∷ s .opens)))
     (outcome call.nothing s)
 
 -- the open report or priming with the id
@@ -173,15 +177,19 @@ openWith id s = firstBy (hasId id) blank (s .opens)
 abbrev pub cancelled : Subscription → State → Bool
 cancelled x s = isReport x && not (eqb (s .cancel) 0)
 
+-- is the open one kept
+abbrev pub stays : Subscription → ℕ → State → Bool
+stays x o s = not (cancelled x s) && keeps x o
+
 -- "Kept ones go to the end."
 abbrev pub storedAfter : Subscription → ℕ → State → List Subscription
-storedAfter x o s = cond (not (cancelled x s) && keeps x o) (s .stored ++ (closed x o ∷ [])) (s .stored)
+storedAfter x o s = cond (stays x o s) (s .stored ++ (closed x o ∷ [])) (s .stored)
 
 -- "Complete takes an id and an outcome."
 unfoldable pub completedIn : ℕ → ℕ → State → Outcome
 completedIn id o s =
     let x : Subscription = openWith id s in
-    outcome (call.completed (not (cancelled x s) && keeps x o) (failed x o))
+    outcome (call.completed (stays x o s) (failed x o))
     (withCancel (withOnes s (storedAfter x o s) (takeOutNewest (hasId id) (s .opens))) (cond (isReport x) 0 (s .cancel)))
 
 -- "then cancels the open report if it matches and isn't cancelled yet"
@@ -262,7 +270,7 @@ pub record Turn : Type 0 where
 -- a hand-out ended by its outcome, its id written at the next place
 abbrev pub turned : Settings → ℕ → Turn → Turn
 turned at o t =
-    let x : Subscription = firstBy (ready at (t .state)) blank (t .state .stored) in
+    let x : Subscription = nextUp at (t .state) in
     record {
       handOuts = t .handOuts + 1;
       ids = set (t .ids) (t .handOuts) (x .id);

@@ -1,14 +1,24 @@
 -- Document 01's marked examples, one table of what they say. That they hold is proved in `proofs/Marked`.
 -- Assumes nothing.
 use mathlib.Core.Path.{_≡_}
-use mathlib.Core.List.{List, [], _∷_}
+use mathlib.Core.Bool.{false}
+use mathlib.Core.List.{List, [], _∷_, map}
 use Prim.Native.Nat.{ℕ, zero, suc, _+_}
 use Rattle.time.specs.declared.KeepAlive.the-variants.{Default, Icd}
 use Rattle.changes.specs.declared.ChangedAttr.{ChangedAttr}
 use Rattle.changes.specs.declared.ChangedAttrs.{ChangedAttrs}
+use Rattle.refusal.specs.declared.Refusal.the-variants.{IdLive}
+use Rattle.refusal.specs.Numbers.{numberOf}
+use Rattle.time.specs.Instants.{instant}
 use Rattle.time.specs.Intervals.{backoffSecs, dueAfterSecs, grantedMaxSecs}
 use Rattle.changes.specs.Paths.{entry, wildCluster, wildAttr, allWild}
 use Rattle.changes.specs.Logs.{entriesOf, freshLog, noted}
+use Rattle.subscription.specs.declared.Request.{Request}
+use Rattle.subscription.specs.declared.Subscription.{Subscription}
+use Rattle.rules.specs.States.{fresh}
+use Rattle.rules.specs.Calls as call
+use Rattle.rules.specs.Calls.{Settings, Op}
+use Rattle.rules.specs.Machine.{run, answers}
 
 -- a path, as a note names it
 pub record Path : Type 0 where
@@ -27,6 +37,28 @@ afterNotes p (suc n) i g = afterNotes p n (i + 1) (noted g (p i .endpoint) (p i 
 -- the entries of a fresh log after sixteen notes and a seventeenth
 unfoldable pub afterSeventeen : (ℕ → Path) → ℕ → Path → List ChangedAttr
 afterSeventeen p i q = entriesOf (noted (afterNotes p 16 i freshLog) (q .endpoint) (q .cluster) (q .attr) .log)
+
+-- a request, an instant and settings in which nothing but the calls matters
+abbrev someRequest : Request
+someRequest = record { peer = 7; shortest = 1; longest = 60; rx = 0; fabric = 1 }
+
+abbrev someSettings : Settings
+someSettings = record { now = instant 1000; events = 0; kind = Default; all = false }
+
+-- the calls of P11
+abbrev pub resumeAddAdd : List Op
+resumeAddAdd = call.resume 4294967294 someRequest 0 ∷ call.add someRequest 0 (instant 1000) ∷ call.add someRequest 0 (instant 1000) ∷ []
+
+-- the calls of P12: three are stored, and the first is handed out and kept
+abbrev pub resumeThree : List Op
+resumeThree = call.resume 1 someRequest 0 ∷ call.resume 2 someRequest 0 ∷ call.resume 3 someRequest 0 ∷ []
+
+abbrev pub handOutOne : List Op
+handOutOne = call.report someSettings ∷ call.complete 1 0 ∷ []
+
+-- who they are, in order
+abbrev pub idsOf : List Subscription → List ℕ
+idsOf l = map (λ x. x .id) l
 
 -- "The marked examples form one proved table"
 pub record Marked : Type 0 where
@@ -50,3 +82,10 @@ pub record Marked : Type 0 where
   pub p9 : afterSeventeen (λ i. path 1 i 0) 1 (path 1 17 0) ≡ (entry 1 wildCluster wildAttr 17 ∷ [])
   -- "P10 (1..16,6,0), then (17,6,0): one all-wild 17."
   pub p10 : afterSeventeen (λ i. path i 6 0) 1 (path 17 6 0) ≡ (allWild 17 ∷ [])
+  -- "P11 in a table of capacity 80: resume 4294967294, add gives 4294967295, add again gives 4.": the id is live, and the next id stays there
+  pub p11 : answers resumeAddAdd (fresh 80) ≡ (call.number 4294967294 ∷ call.number 4294967295 ∷ call.refused IdLive ∷ [])
+  pub p11number : numberOf IdLive ≡ 4
+  pub p11next : run resumeAddAdd (fresh 80) .next ≡ 4294967295
+  -- "P12 stored A, B, C; A handed out and kept: C, B, A."
+  pub p12before : idsOf (run resumeThree (fresh 80) .stored) ≡ (1 ∷ 2 ∷ 3 ∷ [])
+  pub p12 : idsOf (run handOutOne (run resumeThree (fresh 80)) .stored) ≡ (3 ∷ 2 ∷ 1 ∷ [])

@@ -1,17 +1,17 @@
 -- What floors above may use of instants and intervals. They never open a definition of this crate.
 -- Assumes nothing.
-use mathlib.Core.Path.{_≡_}
-use mathlib.Core.Bool.{true, false}
+use mathlib.Core.Path.{_≡_, refl}
+use mathlib.Core.Bool.{Bool, true, false, cond}
 use Prim.Native.Nat.{ℕ, _+_, _*_, _-_, _≤_, _<_, min, max}
 use native.Mathlib.Omega.{arith}
-use borrow.Author.Tests.{le-leb, lt-leb}
+use borrow.Author.Tests.{le-leb, leb-true, lt-leb}
 use lib.Dec.{leb}
 use lib.Pow.{pow-pos}
 use Rattle.time.specs.declared.Instant.{Instant}
 use Rattle.time.specs.declared.Later.the-variants.{At, Overflow}
 use Rattle.time.specs.declared.KeepAlive.{KeepAlive}
 use Rattle.time.specs.declared.KeepAlive.the-variants.{Default, Icd}
-use Rattle.time.specs.Instants.{instant, firstInstant, lastInstant, later, neverReported}
+use Rattle.time.specs.Instants.{instant, firstInstant, lastInstant, later, orElse, neverReported}
 use Rattle.time.specs.Intervals.{backoffSecs, dueAfterSecs}
 use Rattle.time.specs.Moments.{sinceReport, retryAt, expired}
 
@@ -85,3 +85,26 @@ pub retry-past : (opened : Instant) (fails longest : ℕ) → lastInstant .ms < 
     → retryAt opened fails longest ≡ lastInstant
 unfolding retryAt
 retry-past opened fails longest h = rw (later-past opened (backoffSecs fails longest) h)
+
+-- ---- none of these is past the last instant
+
+else-most : (from other : Instant) (secs : ℕ) → other .ms ≤ lastInstant .ms → orElse (later from secs) other .ms ≤ lastInstant .ms
+unfolding later
+else-most from other secs h = go (leb (from .ms + secs * 1000) (lastInstant .ms)) refl
+  where
+    go : (b : Bool) → leb (from .ms + secs * 1000) (lastInstant .ms) ≡ b
+        → orElse (cond b (At (instant (from .ms + secs * 1000))) Overflow) other .ms ≤ lastInstant .ms
+    go true e = leb-true _ _ e
+    go false e = h
+
+pub since-most : (from : Instant) (secs : ℕ) → sinceReport from secs .ms ≤ lastInstant .ms
+unfolding sinceReport
+since-most from secs = go (neverReported from)
+  where
+    go : (b : Bool) → cond b firstInstant (orElse (later from secs) firstInstant) .ms ≤ lastInstant .ms
+    go true = omega arith
+    go false = else-most from firstInstant secs (omega arith)
+
+pub retry-most : (opened : Instant) (fails longest : ℕ) → retryAt opened fails longest .ms ≤ lastInstant .ms
+unfolding retryAt
+retry-most opened fails longest = else-most opened lastInstant (backoffSecs fails longest) (omega arith)
