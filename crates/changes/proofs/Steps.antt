@@ -2,12 +2,12 @@
 -- Assumes nothing.
 use mathlib.Core.Path.{_≡_, sym, ap, _∙_}
 use mathlib.Core.Bool.{Bool, true, false}
-use mathlib.Core.List.{List, [], _∷_, _++_, map, append-assoc, append-nil}
+use mathlib.Core.List.{List, [], _∷_, _++_, append-assoc, append-nil}
 use Prim.Native.Nat.{ℕ, _+_, _-_, _≤_, _<_, max}
 use native.Mathlib.Omega.{arith}
 use native.Mathlib.Numerals.{add-one}
 use lib.Dec.{ltb}
-use lib.ListN.{length, take, getD, set, replicate, length-map, replicate-append-replicate}
+use lib.ListN.{length, take, getD, set, replicate, replicate-append-replicate}
 use lib.Seq.{slice, getD-take, length-take-le, take-all, take-set-lt, take-suc-set}
 use Rattle.changes.specs.declared.ChangedAttr.{ChangedAttr}
 use Rattle.changes.specs.declared.ChangedAttrs.{ChangedAttrs}

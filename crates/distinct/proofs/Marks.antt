@@ -1,8 +1,8 @@
 -- The quick pass from the end: from i on every residue is marked and the numbers differ. A residue that is not marked yet belongs to a number
 -- that stands nowhere behind.
 -- Assumes nothing.
-use mathlib.Core.Path.{_≡_, refl, sym, ap, _∙_}
-use mathlib.Core.Bool.{Bool, true, false, not, _&&_, _||_}
+use mathlib.Core.Path.{_≡_, refl, sym}
+use mathlib.Core.Bool.{Bool, true, false}
 use mathlib.Core.List.{List, [], _∷_}
 use mathlib.Core.Logic.{⊎-elim}
 use Prim.Native.Nat.{ℕ, zero, suc, _+_, _-_, _%_, _≤_, _<_}
@@ -12,9 +12,9 @@ use borrow.Author.Tests.{ne-eqb}
 use lib.ListN.{getD, set, length, length-set}
 use lib.Seq.{slice, getD-set-same}
 use Rattle.lists.specs.Search.{some, distinct}
+use Rattle.distinct.specs.Differ.{holds, differ}
 use Rattle.lists.proofs.Bools.{clash}
 use Rattle.lists.proofs.Arrays.{slice-next, slice-done}
-use Rattle.distinct.specs.Differ.{holds, differ}
 
 module _ (l : List ℕ) (t : ℕ) (room : t ≤ length l) where
   -- a turn of each loop, by what stands at f

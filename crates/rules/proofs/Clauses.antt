@@ -9,7 +9,6 @@ use mathlib.Core.Option.{some as just}
 use Prim.Native.Nat.{ℕ, _+_}
 use lib.Dec.{eqb, leb, ltb}
 use lib.ListN.{length}
-use Rattle.lists.specs.Search.{some, count, distinct}
 use Rattle.refusal.specs.declared.Refusal.{Refusal}
 use Rattle.refusal.specs.declared.Refusal.the-variants.{Full, NotOpen, ReportOpen, IdLive, BadArgument, PrimingOpen}
 use Rattle.time.specs.declared.Instant.{Instant}
@@ -17,10 +16,11 @@ use Rattle.time.specs.declared.KeepAlive.{KeepAlive}
 use Rattle.subscription.specs.declared.Choice.{Choice}
 use Rattle.subscription.specs.declared.Request.{Request}
 use Rattle.subscription.specs.declared.Settings.{Settings}
-use Rattle.rules.specs.Calls as call
+use Rattle.lists.specs.Search.{some, count, distinct}
 use Rattle.changes.specs.Logs.{kept}
 use Rattle.rules.specs.States.{State, idLive, isPriming, counted, isReport, reportOpen, capacityFits, fabricZero, wellKept}
 use Rattle.rules.specs.Machine.{Objection, firstOf, objections, notOpen, badReason}
+use Rattle.rules.specs.Calls as call
 
 pub counted-is : (s : State) → counted s ≡ length (s .stored) + length (s .opens)
 unfolding counted

@@ -1,24 +1,23 @@
 -- The well-kept rule in the array's terms: with the counts within the capacity, what is left to test is the log, the ids, the fabrics, the open
 -- reports and the reason.
 -- Assumes nothing.
-use mathlib.Core.Path.{_≡_, refl, sym, ap, _∙_}
-use mathlib.Core.Bool.{Bool, true, false, not, _&&_, _||_, and-false}
-use mathlib.Core.List.{List, _++_}
-use mathlib.Core.Logic.{⊎-elim}
-use Prim.Native.Nat.{ℕ, _+_, _-_, _≤_, _<_}
+use mathlib.Core.Path.{_≡_, _∙_}
+use mathlib.Core.Bool.{Bool, true, false, not, _&&_, _||_}
+use mathlib.Core.List.{_++_}
+use Prim.Native.Nat.{_+_, _-_, _≤_}
 use native.Mathlib.Omega.{arith}
-use borrow.Author.Tests.{le-leb, leb-true}
+use borrow.Author.Tests.{leb-true}
 use lib.Dec.{eqb, leb, ltb}
 use lib.ListN.{length, length-drop}
 use lib.Seq.{length-take-le}
+use Rattle.table.specs.declared.Table.{Table}
 use Rattle.lists.specs.Search.{some, count, distinct}
+use Rattle.changes.specs.Logs.{kept as logKept}
+use Rattle.rules.specs.States.{isReport, capacityFits, fabricZero}
+use Rattle.table.specs.Views.{storedOf, opensOf, view, kept}
 use Rattle.lists.proofs.Bools.{split, clash, and-both}
 use Rattle.lists.proofs.Searches.{some-counted}
-use Rattle.changes.specs.Logs.{kept as logKept}
-use Rattle.rules.specs.States.{isReport, capacityFits, fabricZero, wellKept}
 use Rattle.rules.proofs.Clauses.{well-kept-is}
-use Rattle.table.specs.declared.Table.{Table}
-use Rattle.table.specs.Views.{storedOf, opensOf, view, kept}
 
 -- what is left to test of a table whose counts are within its capacity
 abbrev pub Inside : Table → Bool

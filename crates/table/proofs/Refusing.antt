@@ -1,8 +1,8 @@
 -- What a well-kept table gives its calls, and how a call comes to its refusal: 7 first, then the machine's objections.
 -- Assumes nothing.
 use mathlib.Core.Path.{_≡_, refl, sym, ap, _∙_}
-use mathlib.Core.Bool.{Bool, true, false, not, _&&_}
-use mathlib.Core.List.{[], _∷_}
+use mathlib.Core.Bool.{true, false, not}
+use mathlib.Core.List.{[]}
 use mathlib.Core.Option.{Option, none}
 use mathlib.Core.Option.{some as just}
 use Prim.Native.Nat.{ℕ, _+_, _-_, _≤_, _<_}
@@ -11,22 +11,22 @@ use borrow.Author.Tests.{leb-true, leb-false}
 use lib.Dec.{leb, eqb}
 use lib.ListN.{length, length-drop}
 use lib.Seq.{length-take-le}
-use Rattle.lists.proofs.Bools.{split, and-both, and-left, and-right}
 use Rattle.refusal.specs.declared.Refusal.{Refusal}
 use Rattle.refusal.specs.declared.Refusal.the-variants.{BadArgument, Full, NotWellKept}
-use Rattle.changes.specs.Logs.{kept as logKept}
 use Rattle.time.specs.declared.Instant.{Instant}
 use Rattle.subscription.specs.declared.Request.{Request}
-use Rattle.lists.proofs.Searches.{some-append}
+use Rattle.table.specs.declared.Table.{Table}
+use Rattle.table.specs.declared.Verdict.the-variants as verdict
+use Rattle.changes.specs.Logs.{kept as logKept}
 use Rattle.rules.specs.States.{wellKept, counted, hasId}
-use Rattle.rules.specs.Calls as call
 use Rattle.rules.specs.Calls.{Op}
 use Rattle.rules.specs.Machine.{firstOf, objections}
-use Rattle.rules.proofs.Clauses.{counted-is, add-objects, resume-objects, well-kept-is, first-holds, first-passed, first-none}
-use Rattle.table.specs.declared.Table.{Table}
 use Rattle.table.specs.Views.{storedOf, opensOf, view, kept, refusalAt}
 use Rattle.table.specs.Calls.{admitObjections, asVerdict}
-use Rattle.table.specs.declared.Verdict.the-variants as verdict
+use Rattle.rules.specs.Calls as call
+use Rattle.lists.proofs.Bools.{split, and-both, and-left, and-right}
+use Rattle.lists.proofs.Searches.{some-append}
+use Rattle.rules.proofs.Clauses.{counted-is, add-objects, resume-objects, well-kept-is, first-holds, first-passed, first-none}
 
 module _ (t : Table) where
   module _ (h : kept t ≡ true) where

@@ -1,30 +1,30 @@
 -- One turn of the pass over the live ones, and what the well-kept test asks in the array's terms.
 -- Assumes nothing.
 use mathlib.Core.Path.{_≡_, refl, sym, ap, _∙_}
-use mathlib.Core.Bool.{Bool, true, false, cond, _||_, or-assoc, or-false}
+use mathlib.Core.Bool.{Bool, false, _||_, or-assoc, or-false}
 use mathlib.Core.List.{List, [], _∷_, _++_, map}
-use Prim.Native.Nat.{ℕ, zero, suc, _+_, _-_, _≤_, _<_, min}
+use Prim.Native.Nat.{ℕ, suc, _+_, _-_, _≤_, _<_}
 use native.Mathlib.Omega.{arith}
 use native.Mathlib.Numerals.{add-one}
 use borrow.Author.Tests.{lt-ltb, le-ltb, le-leb, lt-leb, leb-true, leb-false, ltb-true, ltb-false}
 use lib.Dec.{leb, ltb, eqb}
 use lib.ListN.{length, take, drop, getD, set, length-append, length-drop, length-set, List·getD-append}
 use lib.Seq.{length-take-le, take-suc, take-suc-set, drop-cons, getD-take, getD-drop, getD-append-add, take-all, drop-length}
-use Rattle.lists.specs.Search.{first, some, distinct, leastBy}
-use Rattle.lists.proofs.Bools.{split}
-use Rattle.lists.proofs.Searches.{first-some}
 use Rattle.subscription.specs.declared.Subscription.{Subscription}
-use Rattle.subscription.specs.Life.{blank}
-use Rattle.rules.specs.States.{fabricZero}
 use Rattle.table.specs.declared.Lives.{Lives}
 use Rattle.table.specs.declared.Table.{Table}
+use Rattle.lists.specs.Search.{first, some, distinct, leastBy}
+use Rattle.subscription.specs.Life.{blank}
+use Rattle.rules.specs.States.{fabricZero}
 use Rattle.table.specs.Views.{storedOf, opensOf, placeOf, Lived}
+use Rattle.lists.proofs.Bools.{split}
+use Rattle.lists.proofs.Searches.{first-some}
 
 -- a bound is never below the least
-pub least-most : {A : Type 0} (f : A → ℕ) (m : ℕ) (l : List A) → leastBy f m l ≤ m
+pub least-bound : {A : Type 0} (f : A → ℕ) (m : ℕ) (l : List A) → leastBy f m l ≤ m
 unfolding leastBy
-least-most f m [] = omega arith
-least-most f m (x ∷ xs) = omega (arith, least-most f m xs)
+least-bound f m [] = omega arith
+least-bound f m (x ∷ xs) = omega (arith, least-bound f m xs)
 
 some-map : {A : Type 0} (f : A → ℕ) (k : ℕ) (l : List A) → some (λ y. eqb k y) (map f l) ≡ some (λ y. eqb k (f y)) l
 unfolding some

@@ -8,45 +8,45 @@ use mathlib.Core.Option.{some as just}
 use Prim.Native.Nat.{ℕ, _+_, _-_}
 use lib.Dec.{eqb, ltb, leb}
 use lib.ListN.{getD}
-use Rattle.lists.specs.Search.{some, count, first, leastBy}
 use Rattle.refusal.specs.declared.Refusal.{Refusal}
 use Rattle.refusal.specs.declared.Refusal.the-variants.{BadArgument, Full, IdLive}
 use Rattle.time.specs.declared.Instant.{Instant}
 use Rattle.time.specs.declared.KeepAlive.{KeepAlive}
-use Rattle.time.specs.Instants.{instant, lastInstant, neverReported}
-use Rattle.changes.specs.declared.Change.the-variants as change
 use Rattle.changes.specs.declared.Told.{Told}
-use Rattle.changes.specs.declared.Told.the-variants as told
-use Rattle.changes.specs.Logs.{watermarkOf, newestOf, noted, changedSince}
 use Rattle.subscription.specs.declared.Request.{Request}
 use Rattle.subscription.specs.declared.Settings.{Settings}
 use Rattle.subscription.specs.declared.Subscription.{Subscription}
+use Rattle.table.specs.declared.Table.{Table}
+use Rattle.table.specs.declared.Settled.{Settled}
+use Rattle.table.specs.declared.TableNoted.{TableNoted}
+use Rattle.table.specs.declared.Reported.{Reported}
+use Rattle.table.specs.declared.Verdict.{Verdict}
+use Rattle.table.specs.declared.Admitted.{Admitted}
+use Rattle.table.specs.declared.Completed.{Completed}
+use Rattle.table.specs.declared.Moment.{Moment}
+use Rattle.table.specs.declared.Alive.{Alive}
+use Rattle.table.specs.declared.Loaded.{Loaded}
+use Rattle.changes.specs.declared.Change.the-variants as change
+use Rattle.changes.specs.declared.Told.the-variants as told
+use Rattle.table.specs.declared.Hearing.the-variants as hearing
+use Rattle.table.specs.declared.HandOut.the-variants as handOut
+use Rattle.table.specs.declared.Verdict.the-variants as verdict
+use Rattle.table.specs.declared.Admission.the-variants as admission
+use Rattle.table.specs.declared.Completion.the-variants as completion
+use Rattle.table.specs.declared.Moment.the-variants as moment
+use Rattle.table.specs.declared.Alive.the-variants as alive
+use Rattle.table.specs.declared.Loaded.the-variants as loaded
+use Rattle.lists.specs.Search.{some, count, first, leastBy}
+use Rattle.time.specs.Instants.{instant, lastInstant, neverReported}
+use Rattle.changes.specs.Logs.{watermarkOf, newestOf, noted, changedSince}
 use Rattle.subscription.specs.Life.{blank, priming, resumed, opened, closed, keeps, failed}
 use Rattle.subscription.specs.When.{isDue}
 use Rattle.rules.specs.States.{capacityFits, hasId}
 use Rattle.rules.specs.Machine.{Objection, nextIdAfter}
-use Rattle.rules.specs.Calls as call
-use Rattle.table.specs.declared.Table.{Table}
-use Rattle.table.specs.declared.Settled.{Settled}
-use Rattle.table.specs.declared.TableNoted.{TableNoted}
-use Rattle.table.specs.declared.Hearing.the-variants as hearing
-use Rattle.table.specs.declared.Reported.{Reported}
-use Rattle.table.specs.declared.HandOut.the-variants as handOut
-use Rattle.table.specs.declared.Verdict.{Verdict}
-use Rattle.table.specs.declared.Verdict.the-variants as verdict
-use Rattle.table.specs.declared.Admitted.{Admitted}
-use Rattle.table.specs.declared.Admission.the-variants as admission
-use Rattle.table.specs.declared.Completed.{Completed}
-use Rattle.table.specs.declared.Completion.the-variants as completion
-use Rattle.table.specs.declared.Moment.{Moment}
-use Rattle.table.specs.declared.Moment.the-variants as moment
-use Rattle.table.specs.declared.Alive.{Alive}
-use Rattle.table.specs.declared.Alive.the-variants as alive
-use Rattle.table.specs.declared.Loaded.{Loaded}
-use Rattle.table.specs.declared.Loaded.the-variants as loaded
 use Rattle.table.specs.Views.{storedOf, opensOf, freshTable, refusalAt}
 use Rattle.table.specs.Tests.{readyBy, ofFabric, served, nextBy, icdDue}
 use Rattle.table.specs.Moves.{withNextId, withReason, withLog, takenOut, storedLast, openedUp, closedAt}
+use Rattle.rules.specs.Calls as call
 
 -- by what a call is refused with, if it is
 abbrev pub settledBy : {A : Type 0} → Option Refusal → (Refusal → A) → A → A

@@ -3,11 +3,11 @@
 use mathlib.Core.Bool.{Bool, true, false}
 use mathlib.Core.List.{List, _++_}
 use Prim.Native.Nat.{ℕ, zero, suc, _+_, _-_}
-use lib.ListN.{take, drop, getD, set, replicate}
+use lib.ListN.{drop, getD, set, replicate}
 use Rattle.changes.specs.declared.ChangedAttrs.{ChangedAttrs}
 use Rattle.subscription.specs.declared.Subscription.{Subscription}
-use Rattle.subscription.specs.Life.{blank}
 use Rattle.table.specs.declared.Table.{Table}
+use Rattle.subscription.specs.Life.{blank}
 
 -- the table with other places and counts
 abbrev pub withPlaces : Table → List Subscription → ℕ → ℕ → Table

@@ -6,13 +6,13 @@ use lib.Dec.{eqb, ltb}
 use Rattle.time.specs.declared.KeepAlive.the-variants.{Icd}
 use Rattle.subscription.specs.declared.Subscription.{Subscription}
 use Rattle.subscription.specs.declared.Settings.{Settings}
-use Rattle.subscription.specs.When.{dueOf, reportable, nextOf}
-use Rattle.subscription.specs.Choices.{chosen}
-use Rattle.rules.specs.States.{isReport, isPriming, hasId}
 use Rattle.table.specs.declared.Test.{Test}
 use Rattle.table.specs.declared.Test.the-variants.{Id, Report, Priming, Ready, Chosen, Fabric, Served}
 use Rattle.table.specs.declared.Measure.{Measure}
 use Rattle.table.specs.declared.Measure.the-variants.{Next, Due, Seen}
+use Rattle.subscription.specs.When.{dueOf, reportable, nextOf}
+use Rattle.subscription.specs.Choices.{chosen}
+use Rattle.rules.specs.States.{isReport, isPriming, hasId}
 
 -- reportable at the settings, where the log's greatest identity is `newest`
 unfoldable pub readyBy : Settings → ℕ → Subscription → Bool

@@ -8,17 +8,17 @@ use mathlib.Core.Option.{Option}
 use Prim.Native.Nat.{ℕ, _+_, _-_}
 use lib.Dec.{leb, ltb}
 use lib.ListN.{length, take, drop, replicate}
-use Rattle.lists.specs.Search.{some}
 use Rattle.refusal.specs.declared.Refusal.{Refusal}
 use Rattle.refusal.specs.declared.Refusal.the-variants.{NotWellKept}
-use Rattle.changes.specs.Logs.{freshLog}
 use Rattle.subscription.specs.declared.Subscription.{Subscription}
+use Rattle.table.specs.declared.Table.{Table}
+use Rattle.table.specs.declared.Lives.{Lives}
+use Rattle.lists.specs.Search.{some}
+use Rattle.changes.specs.Logs.{freshLog}
 use Rattle.subscription.specs.Life.{blank}
 use Rattle.rules.specs.States.{State, fabricZero, wellKept}
 use Rattle.rules.specs.Calls.{Op}
-use Rattle.rules.specs.Machine.{Objection, firstOf, objections}
-use Rattle.table.specs.declared.Table.{Table}
-use Rattle.table.specs.declared.Lives.{Lives}
+use Rattle.rules.specs.Machine.{firstOf, objections}
 
 -- the stored ones, in their order
 abbrev pub storedOf : Table → List Subscription

@@ -9,8 +9,7 @@ use Rattle.changes.specs.Logs.{entriesOf}
 use Rattle.changes.specs.Paths.{blank, holds}
 use Rattle.lists.specs.Removal.{sweep, scanned}
 use Rattle.changes.proofs.Steps.{held}
-use Rattle.lists.proofs.Arrays.{full}
-use Rattle.lists.proofs.Arrays.{scan-start, scan-out, scan-kept, scan-done}
+use Rattle.lists.proofs.Arrays.{full, scan-start, scan-out, scan-kept, scan-done}
 use Rattle.changes.proofs.swept.Statement.{statement}
 use Rattle.changes.proofs.swept.Tie as tie
 

@@ -9,8 +9,7 @@ use lib.ListN.{length}
 use Rattle.changes.specs.Logs.{entriesOf}
 use Rattle.changes.specs.Paths.{blank, holds}
 use Rattle.lists.specs.Search.{count, one}
-use Rattle.lists.proofs.Arrays.{count-next, count-done}
-use Rattle.lists.proofs.Arrays.{full}
+use Rattle.lists.proofs.Arrays.{count-next, count-done, full}
 use Rattle.changes.proofs.tally.Statement.{statement}
 use Rattle.changes.proofs.tally.Tie as tie
 

@@ -1,16 +1,12 @@
 -- `all_differ` meets its contract. The invariant: from i on every residue is marked and the numbers differ.
 -- Assumes nothing.
-use Rattle.distinct.proofs.Marks.{Marked, mark-begin, mark-step}
-use lib.Seq.{take-length}
-use lib.ListN.{length}
+use mathlib.Core.Path.{_≡_, refl, sym}
 use native.Mathlib.Omega.{arith}
-use mathlib.Core.Path.{_≡_, refl, sym, _∙_}
 use borrow.Author.Needs.{needs}
+use lib.Seq.{take-length}
+use Rattle.distinct.proofs.Marks.{Marked, mark-begin, mark-step}
 use Rattle.distinct.proofs.all_differ.Statement.{statement}
 use Rattle.distinct.proofs.all_differ.Tie as tie
-use Rattle.distinct.proofs.all_differ.Reads as reads
-use Rattle.distinct.proofs.all_differ.Lts as lts
-use Rattle.distinct.proofs.each_differs.Reads as each-differs-reads
 
 abbrev Inv-loop : tie.InvT-loop
 Inv-loop ids seen₀ i₀ seen i = Marked ids seen i
@@ -18,51 +14,39 @@ Inv-loop ids seen₀ i₀ seen i = Marked ids seen i
 abbrev μ-loop : tie.MeasureT-loop
 μ-loop ids seen₀ i₀ seen i = i
 
--- src/lib.rt:17:5
 loop-holds : tie.Need-loop-holds Inv-loop μ-loop
 loop-holds c = mark-begin _ _ refl
 
--- src/lib.rt:18:9
 sub-i : tie.Need-sub-i Inv-loop μ-loop
 sub-i c = search needs
 
--- src/lib.rt:19:24
 mul-residue : tie.Need-mul-residue Inv-loop μ-loop
 mul-residue c = search needs
 
--- src/lib.rt:19:24
 shared-slice-read-residue : tie.Need-shared-slice-read-residue Inv-loop μ-loop
 shared-slice-read-residue c = search needs
 
--- src/lib.rt:19:23
 cast-residue : tie.Need-cast-residue Inv-loop μ-loop
 cast-residue c = search needs
 
--- src/lib.rt:20:12
 array-read-if1 : tie.Need-array-read-if1 Inv-loop μ-loop
 array-read-if1 c = search needs
 
--- src/lib.rt:21:13
 each-differs-requires : tie.Need-each-differs-requires Inv-loop μ-loop
 each-differs-requires c κs = search needs
 
--- src/lib.rt:21:13
 returns : tie.Need-returns Inv-loop μ-loop
 returns c = search needs
 
--- src/lib.rt:23:9
 array-write-seen : tie.Need-array-write-seen Inv-loop μ-loop
 array-write-seen c = search needs
 
--- src/lib.rt:17:5
 loop-less : tie.Need-loop-less Inv-loop μ-loop
 loop-less c = search needs
 
--- src/lib.rt:17:5
 loop-again : tie.Need-loop-again Inv-loop μ-loop
 loop-again c = mark-step _ _ _ (c .before .before .before .loop .inv) (omega arith) (c .if1 .left)
 
--- src/lib.rt:12:1
 returns-2 : tie.Need-returns-2 Inv-loop μ-loop
 returns-2 c =
     let k = c .before .loop in

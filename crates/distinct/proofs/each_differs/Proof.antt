@@ -1,19 +1,16 @@
 -- `each_differs` meets its contract. The invariant: all differ exactly where those from i on do.
 -- Assumes nothing.
-use Rattle.lists.specs.Search.{some, distinct}
-use Rattle.distinct.proofs.Marks.{differ-here, differ-done}
-use Rattle.distinct.specs.Differ.{differ}
+use mathlib.Core.Path.{_≡_, sym, _∙_}
+use Prim.Native.Nat.{_-_, _≤_}
+use native.Mathlib.Omega.{arith}
+use borrow.Author.Needs.{needs}
 use lib.Seq.{slice, take-length}
 use lib.ListN.{length}
-use native.Mathlib.Omega.{arith}
-use Prim.Native.Nat.{_-_, _≤_}
-use mathlib.Core.Path.{_≡_, refl, sym, _∙_}
-use borrow.Author.Needs.{needs}
+use Rattle.lists.specs.Search.{distinct}
+use Rattle.distinct.specs.Differ.{differ}
+use Rattle.distinct.proofs.Marks.{differ-here, differ-done}
 use Rattle.distinct.proofs.each_differs.Statement.{statement}
 use Rattle.distinct.proofs.each_differs.Tie as tie
-use Rattle.distinct.proofs.each_differs.Reads as reads
-use Rattle.distinct.proofs.each_differs.Lts as lts
-use Rattle.distinct.proofs.stands_from.Reads as stands-from-reads
 
 abbrev Inv-loop : tie.InvT-loop
 Inv-loop ids i₀ i = (differ ids ≡ differ (slice i (length ids) ids)) × (i ≤ length ids)
@@ -21,27 +18,21 @@ Inv-loop ids i₀ i = (differ ids ≡ differ (slice i (length ids) ids)) × (i �
 abbrev μ-loop : tie.MeasureT-loop
 μ-loop ids i₀ i = length ids - i
 
--- src/lib.rt:33:5
 loop-holds : tie.Need-loop-holds Inv-loop μ-loop
 loop-holds c = (rw (take-length (c .before .args .ids .now)), search needs)
 
--- src/lib.rt:34:29
 add-stands-from : tie.Need-add-stands-from Inv-loop μ-loop
 add-stands-from c = search needs
 
--- src/lib.rt:34:36
 mul-stands-from : tie.Need-mul-stands-from Inv-loop μ-loop
 mul-stands-from c = search needs
 
--- src/lib.rt:34:36
 shared-slice-read-stands-from : tie.Need-shared-slice-read-stands-from Inv-loop μ-loop
 shared-slice-read-stands-from c = search needs
 
--- src/lib.rt:34:12
 stands-from-requires : tie.Need-stands-from-requires Inv-loop μ-loop
 stands-from-requires c κs = search needs
 
--- src/lib.rt:35:13
 returns : tie.Need-returns Inv-loop μ-loop
 unfolding distinct
 returns c =
@@ -49,15 +40,12 @@ returns c =
     let k = c .before .before .before .before .loop in
     sym (k .inv .0 ∙ differ-here a (length a) (omega arith) (k .i) (omega arith) ∙ rw (sym (c .before .stands-from .ensures) ∙ c .if1 .taken, distinct))
 
--- src/lib.rt:37:9
 add-i : tie.Need-add-i Inv-loop μ-loop
 add-i c = search needs
 
--- src/lib.rt:33:5
 loop-less : tie.Need-loop-less Inv-loop μ-loop
 loop-less c = search needs
 
--- src/lib.rt:33:5
 loop-again : tie.Need-loop-again Inv-loop μ-loop
 unfolding distinct
 loop-again c =
@@ -65,7 +53,6 @@ loop-again c =
     let k = c .before .before .before .before .loop in
     (k .inv .0 ∙ differ-here a (length a) (omega arith) (k .i) (omega arith) ∙ rw (sym (c .before .stands-from .ensures) ∙ c .if1 .left, distinct), search needs)
 
--- src/lib.rt:29:1
 returns-2 : tie.Need-returns-2 Inv-loop μ-loop
 returns-2 c =
     let a = c .before .before .before .args .ids .now in

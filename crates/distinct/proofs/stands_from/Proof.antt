@@ -1,19 +1,17 @@
 -- `stands_from` meets its contract. The invariant: the number stands from the start on exactly where it stands from i on.
 -- Assumes nothing.
-use Rattle.lists.specs.Search.{some, distinct}
-use Rattle.distinct.proofs.Marks.{holds-here, holds-done}
-use Rattle.distinct.specs.Differ.{holds}
+use mathlib.Core.Path.{_≡_, refl, sym, _∙_}
+use Prim.Native.Nat.{_-_, _≤_}
+use native.Mathlib.Omega.{arith}
+use borrow.Author.Tests.{eq-eqb, ne-eqb}
+use borrow.Author.Needs.{needs}
 use lib.Seq.{slice}
 use lib.ListN.{length}
-use borrow.Author.Tests.{eq-eqb, ne-eqb}
-use native.Mathlib.Omega.{arith}
-use Prim.Native.Nat.{_-_, _≤_}
-use mathlib.Core.Path.{_≡_, refl, sym, _∙_}
-use borrow.Author.Needs.{needs}
+use Rattle.lists.specs.Search.{some}
+use Rattle.distinct.specs.Differ.{holds}
+use Rattle.distinct.proofs.Marks.{holds-here, holds-done}
 use Rattle.distinct.proofs.stands_from.Statement.{statement}
 use Rattle.distinct.proofs.stands_from.Tie as tie
-use Rattle.distinct.proofs.stands_from.Reads as reads
-use Rattle.distinct.proofs.stands_from.Lts as lts
 
 abbrev Inv-loop : tie.InvT-loop
 Inv-loop ids from id i₀ i = (holds id (slice from (length ids) ids) ≡ holds id (slice i (length ids) ids)) × (i ≤ length ids)
@@ -21,19 +19,15 @@ Inv-loop ids from id i₀ i = (holds id (slice from (length ids) ids) ≡ holds 
 abbrev μ-loop : tie.MeasureT-loop
 μ-loop ids from id i₀ i = length ids - i
 
--- src/lib.rt:48:5
 loop-holds : tie.Need-loop-holds Inv-loop μ-loop
 loop-holds c = (refl, search needs)
 
--- src/lib.rt:49:12
 mul-if1 : tie.Need-mul-if1 Inv-loop μ-loop
 mul-if1 c = search needs
 
--- src/lib.rt:49:12
 shared-slice-read-if1 : tie.Need-shared-slice-read-if1 Inv-loop μ-loop
 shared-slice-read-if1 c = search needs
 
--- src/lib.rt:50:13
 returns : tie.Need-returns Inv-loop μ-loop
 unfolding some
 returns c =
@@ -41,15 +35,12 @@ returns c =
     let k = c .before .before .before .loop in
     sym (k .inv .0 ∙ holds-here (a .ids .now) (length (a .ids .now)) (omega arith) (k .i) (a .id) (omega arith) ∙ rw (eq-eqb _ _ (c .if1 .taken), some))
 
--- src/lib.rt:52:9
 add-i : tie.Need-add-i Inv-loop μ-loop
 add-i c = search needs
 
--- src/lib.rt:48:5
 loop-less : tie.Need-loop-less Inv-loop μ-loop
 loop-less c = search needs
 
--- src/lib.rt:48:5
 loop-again : tie.Need-loop-again Inv-loop μ-loop
 unfolding some
 loop-again c =
@@ -57,7 +48,6 @@ loop-again c =
     let k = c .before .before .before .loop in
     (k .inv .0 ∙ holds-here (a .ids .now) (length (a .ids .now)) (omega arith) (k .i) (a .id) (omega arith) ∙ rw (ne-eqb _ _ (c .if1 .left), some), search needs)
 
--- src/lib.rt:43:1
 returns-2 : tie.Need-returns-2 Inv-loop μ-loop
 returns-2 c =
     let a = c .before .before .args in

@@ -3,14 +3,10 @@
 use borrow.Author.Needs.{needs}
 use Rattle.table.proofs.is_cancelled.Statement.{statement}
 use Rattle.table.proofs.is_cancelled.Tie as tie
-use Rattle.table.proofs.is_cancelled.Reads as reads
-use Rattle.table.proofs.is_cancelled.Lts as lts
 
--- src/lib.rt:870:9
 returns : tie.Need-returns
 returns c = rw (c .if1 .taken)
 
--- src/lib.rt:866:1
 returns-2 : tie.Need-returns-2
 returns-2 c = search needs
 

@@ -1,57 +1,44 @@
 -- `complete` meets its contract: the tests are the objections, in their order, and the scan finds the open one.
 -- Assumes nothing.
-use Rattle.table.proofs.Refusing.{kept-counts, kept-log, past-kept, unkept}
-use Rattle.table.proofs.Steps.{open-there}
-use Rattle.table.specs.Calls.{openAt, endedAt, completeIn, attributeAt, sendAt}
-use Rattle.table.specs.Views.{storedOf, opensOf, view, refusalAt}
-use Rattle.rules.proofs.Clauses.{complete-objects, attribute-objects, send-objects, first-holds, first-passed, first-none}
+use mathlib.Core.List.{[]}
+use mathlib.Core.Bool.{not}
+use mathlib.Core.Path.{_≡_, sym, ap, _∙_}
+use Prim.Native.Nat.{_-_}
+use native.Mathlib.Omega.{arith}
+use borrow.Author.Tests.{lt-ltb, le-ltb, not-true, not-false}
+use borrow.Author.Needs.{needs}
+use lib.ListN.{length}
+use Rattle.refusal.specs.declared.Refusal.the-variants.{BadArgument, NotOpen}
+use Rattle.table.specs.Calls.{openAt, completeIn}
+use Rattle.table.specs.Views.{view}
 use Rattle.rules.specs.Machine.{firstOf}
 use Rattle.rules.specs.States.{hasId}
 use Rattle.rules.specs.Calls as call
-use Rattle.changes.proofs.Promises.{path-answer}
-use Rattle.changes.specs.declared.Told.the-variants as told
-use Rattle.refusal.specs.declared.Refusal.the-variants.{BadArgument, NotOpen}
+use Rattle.table.proofs.Refusing.{kept-counts, past-kept, unkept}
+use Rattle.table.proofs.Steps.{open-there}
+use Rattle.rules.proofs.Clauses.{complete-objects, first-holds, first-passed, first-none}
 use Rattle.lists.proofs.Arrays.{full}
-use lib.ListN.{length}
-use borrow.Author.Tests.{eq-eqb, ne-eqb, le-leb, lt-leb, lt-ltb, le-ltb, not-true, not-false}
-use native.Mathlib.Omega.{arith}
-use Prim.Native.Nat.{ℕ, _+_, _-_, _≤_, _<_}
-use mathlib.Core.List.{[], _∷_}
-use mathlib.Core.Bool.{true, false, cond, not, _&&_, _||_}
-use mathlib.Core.Path.{_≡_, refl, sym, ap, _∙_}
-use borrow.Author.Needs.{needs}
 use Rattle.table.proofs.Table.complete.Statement.{statement}
 use Rattle.table.proofs.Table.complete.Tie as tie
-use Rattle.table.proofs.Table.complete.Reads as reads
-use Rattle.table.proofs.Table.complete.Lts as lts
-use Rattle.table.proofs.Table.ended.Reads as ended-reads
-use Rattle.table.proofs.Table.find_open.Reads as find-open-reads
-use Rattle.table.proofs.Table.is_kept.Reads as is-kept-reads
-use Rattle.table.proofs.Table.not_completed.Reads as not-completed-reads
 
 long : (c : tie.Start) → length (c .args .self .places) ≡ 80
 long c = full _ (c .args .self .places) (c .good .0 .1 .1 .0 .1 .0 .1)
 
--- src/lib.rt:205:13
 is-kept-requires : tie.Need-is-kept-requires
 is-kept-requires c κs = search needs
 
--- src/lib.rt:206:13
 not-completed-requires : tie.Need-not-completed-requires
 not-completed-requires c κs = search needs
 
--- src/lib.rt:206:13
 returns : tie.Need-returns
 unfolding completeIn
 returns c =
     let a = c .before .before .before .args in
     rw (unkept (a .self) (sym (c .before .before .is-kept .ensures) ∙ not-true _ (c .before .if1 .taken)) (call.complete (a .id) (a .outcome)), completeIn) (c .not-completed .ensures)
 
--- src/lib.rt:209:13
 not-completed-requires-2 : tie.Need-not-completed-requires-2
 not-completed-requires-2 c κs = search needs
 
--- src/lib.rt:209:13
 returns-2 : tie.Need-returns-2
 unfolding completeIn
 returns-2 c =
@@ -59,17 +46,14 @@ returns-2 c =
     let k = sym (c .before .before .before .is-kept .ensures) ∙ not-false _ (c .before .before .if1 .left) in
     rw (past-kept (a .self) k (call.complete (a .id) (a .outcome)) ∙ ap firstOf (complete-objects (view (a .self)) (a .id) (a .outcome)) ∙ first-holds BadArgument _ (lt-ltb _ _ (c .before .if2 .taken)), completeIn) (c .not-completed2 .ensures)
 
--- src/lib.rt:211:13
 find-open-requires : tie.Need-find-open-requires
 find-open-requires c κs =
     let b = kept-counts (c .before .before .before .args .self) (sym (c .before .before .is-kept .ensures) ∙ not-false _ (c .before .if1 .left)) in
     omega arith
 
--- src/lib.rt:213:13
 not-completed-requires-3 : tie.Need-not-completed-requires-3
 not-completed-requires-3 c κs = search needs
 
--- src/lib.rt:213:13
 returns-3 : tie.Need-returns-3
 unfolding completeIn
 returns-3 c =
@@ -80,13 +64,11 @@ returns-3 c =
     let none = ap not (sym (open-there t (long (c .before .before .before .before .before .before)) (omega arith) (hasId (a .id)) (c .before .before .find-open .ensures)) ∙ le-ltb _ _ (c .before .if3 .taken)) in
     rw (past-kept t k (call.complete (a .id) (a .outcome)) ∙ ap firstOf (complete-objects (view t) (a .id) (a .outcome)) ∙ first-passed BadArgument _ (le-ltb _ _ (c .before .before .before .if2 .left)) ∙ first-holds NotOpen [] none, completeIn) (c .not-completed3 .ensures)
 
--- src/lib.rt:215:9
 ended-requires : tie.Need-ended-requires
 ended-requires c κs =
     let b = kept-counts (c .before .before .before .before .before .args .self) (sym (c .before .before .before .before .is-kept .ensures) ∙ not-false _ (c .before .before .before .if1 .left)) in
     (b, (omega (arith, c .before .find-open .ensures), omega arith))
 
--- src/lib.rt:202:5
 returns-4 : tie.Need-returns-4
 unfolding completeIn openAt
 returns-4 c =

@@ -1,24 +1,18 @@
 -- `count_stored` meets its contract. The invariant: what was counted and what there is from i on are together what there is.
 -- Assumes nothing.
-use Rattle.table.proofs.Steps.{least-most}
-use Rattle.table.specs.Tests.{readyBy, ofFabric, served, passes, nextBy, icdDue, seenOf, measured}
-use Rattle.table.specs.Views.{storedOf, opensOf, kept, placeOf}
-use Rattle.rules.specs.States.{capacityFits, isReport, hasId}
-use Rattle.subscription.specs.Life.{blank}
-use Rattle.lists.proofs.Arrays.{full, slice-rest, first-here, first-next, first-done, count-next, count-done, least-next, least-done}
-use Rattle.lists.specs.Search.{one, some, first, count, leastBy}
-use lib.Seq.{slice}
-use lib.ListN.{length, take, drop}
-use borrow.Author.Tests.{eq-eqb, ne-eqb, le-leb, lt-leb, lt-ltb, le-ltb, not-true, not-false}
+use mathlib.Core.Path.{_≡_, sym, ap, _∙_}
+use Prim.Native.Nat.{_+_, _-_, _≤_}
 use native.Mathlib.Omega.{arith}
-use Prim.Native.Nat.{ℕ, _+_, _-_, _≤_, _<_, min}
-use mathlib.Core.Path.{_≡_, refl, sym, ap, _∙_}
 use borrow.Author.Needs.{needs}
+use lib.Seq.{slice}
+use lib.ListN.{length}
+use Rattle.table.specs.Tests.{passes}
+use Rattle.table.specs.Views.{storedOf}
+use Rattle.subscription.specs.Life.{blank}
+use Rattle.lists.specs.Search.{one, count}
+use Rattle.lists.proofs.Arrays.{full, count-next, count-done}
 use Rattle.table.proofs.Table.count_stored.Statement.{statement}
 use Rattle.table.proofs.Table.count_stored.Tie as tie
-use Rattle.table.proofs.Table.count_stored.Reads as reads
-use Rattle.table.proofs.Table.count_stored.Lts as lts
-use Rattle.table.proofs.Test.passes.Reads as passes-reads
 
 abbrev Inv-loop : tie.InvT-loop
 Inv-loop test self n found₀ i₀ found i =
@@ -28,53 +22,42 @@ Inv-loop test self n found₀ i₀ found i =
 abbrev μ-loop : tie.MeasureT-loop
 μ-loop test self n found₀ i₀ found i = n - i
 
--- src/lib.rt:147:9
 loop-holds : tie.Need-loop-holds Inv-loop μ-loop
 loop-holds c =
     let long = full _ (c .args .t1 .places) (c .good .0 .1 .1 .0 .1 .0 .1) in
     (omega arith, search needs)
 
--- src/lib.rt:148:21
 mul-x : tie.Need-mul-x Inv-loop μ-loop
 mul-x c = search needs
 
--- src/lib.rt:148:21
 element-copy-out-x : tie.Need-element-copy-out-x Inv-loop μ-loop
 element-copy-out-x c = search needs
 
--- src/lib.rt:149:13
 add-i : tie.Need-add-i Inv-loop μ-loop
 add-i c = search needs
 
--- src/lib.rt:150:16
 passes-requires : tie.Need-passes-requires Inv-loop μ-loop
 passes-requires c κs = search needs
 
--- src/lib.rt:151:17
 add-found : tie.Need-add-found Inv-loop μ-loop
 add-found c = search needs
 
--- src/lib.rt:147:9
 loop-less : tie.Need-loop-less Inv-loop μ-loop
 loop-less c = search needs
 
--- src/lib.rt:147:9
 loop-again : tie.Need-loop-again Inv-loop μ-loop
 loop-again c =
     let t = c .before .before .before .before .before .args .t1 in
     (omega (arith, count-next (passes (c .before .before .before .before .before .args .test)) (c .before .before .before .before .loop .i) (t .stored) (t .places) blank (omega arith) (omega arith), ap one (sym (c .before .passes .ensures) ∙ c .if1 .taken)), search needs)
 
--- src/lib.rt:147:9
 loop-less-2 : tie.Need-loop-less-2 Inv-loop μ-loop
 loop-less-2 c = search needs
 
--- src/lib.rt:147:9
 loop-again-2 : tie.Need-loop-again-2 Inv-loop μ-loop
 loop-again-2 c =
     let t = c .before .before .before .before .before .args .t1 in
     (omega (arith, count-next (passes (c .before .before .before .before .before .args .test)) (c .before .before .before .before .loop .i) (t .stored) (t .places) blank (omega arith) (omega arith), ap one (sym (c .before .passes .ensures) ∙ c .if1 .left)), search needs)
 
--- src/lib.rt:140:5
 returns : tie.Need-returns Inv-loop μ-loop
 returns c =
     let t = c .before .before .args .t1 in

@@ -1,24 +1,18 @@
 -- `find_open` meets its contract. The invariant: the first of all open ones is that of those from i on.
 -- Assumes nothing.
-use Rattle.table.proofs.Steps.{least-most}
-use Rattle.table.specs.Tests.{readyBy, ofFabric, served, passes, nextBy, icdDue, seenOf, measured}
-use Rattle.table.specs.Views.{storedOf, opensOf, kept, placeOf}
-use Rattle.rules.specs.States.{capacityFits, isReport, hasId}
-use Rattle.subscription.specs.Life.{blank}
-use Rattle.lists.proofs.Arrays.{full, slice-rest, first-here, first-next, first-done, count-next, count-done, least-next, least-done}
-use Rattle.lists.specs.Search.{one, some, first, count, leastBy}
-use lib.Seq.{slice}
-use lib.ListN.{length, take, drop}
-use borrow.Author.Tests.{eq-eqb, ne-eqb, le-leb, lt-leb, lt-ltb, le-ltb, not-true, not-false}
+use mathlib.Core.Path.{_≡_, sym, _∙_}
+use Prim.Native.Nat.{_+_, _-_, _≤_}
 use native.Mathlib.Omega.{arith}
-use Prim.Native.Nat.{ℕ, _+_, _-_, _≤_, _<_, min}
-use mathlib.Core.Path.{_≡_, refl, sym, ap, _∙_}
 use borrow.Author.Needs.{needs}
+use lib.Seq.{slice}
+use lib.ListN.{length}
+use Rattle.table.specs.Tests.{passes}
+use Rattle.table.specs.Views.{opensOf}
+use Rattle.subscription.specs.Life.{blank}
+use Rattle.lists.specs.Search.{first}
+use Rattle.lists.proofs.Arrays.{full, slice-rest, first-here, first-next, first-done}
 use Rattle.table.proofs.Table.find_open.Statement.{statement}
 use Rattle.table.proofs.Table.find_open.Tie as tie
-use Rattle.table.proofs.Table.find_open.Reads as reads
-use Rattle.table.proofs.Table.find_open.Lts as lts
-use Rattle.table.proofs.Test.passes.Reads as passes-reads
 
 abbrev Inv-loop : tie.InvT-loop
 Inv-loop test self i₀ i =
@@ -28,50 +22,40 @@ Inv-loop test self i₀ i =
 abbrev μ-loop : tie.MeasureT-loop
 μ-loop test self i₀ i = 80 - i
 
--- src/lib.rt:128:21
 sub-i : tie.Need-sub-i Inv-loop μ-loop
 sub-i c = search needs
 
--- src/lib.rt:129:9
 loop-holds : tie.Need-loop-holds Inv-loop μ-loop
 loop-holds c =
     let t = c .args .t1 in
     let long = full _ (t .places) (c .good .0 .1 .1 .0 .1 .0 .1) in
     (rw (slice-rest (80 - t .opens) 80 (t .places) long), search needs)
 
--- src/lib.rt:130:21
 mul-x : tie.Need-mul-x Inv-loop μ-loop
 mul-x c = search needs
 
--- src/lib.rt:130:21
 element-copy-out-x : tie.Need-element-copy-out-x Inv-loop μ-loop
 element-copy-out-x c = search needs
 
--- src/lib.rt:131:16
 passes-requires : tie.Need-passes-requires Inv-loop μ-loop
 passes-requires c κs = search needs
 
--- src/lib.rt:132:17
 returns : tie.Need-returns Inv-loop μ-loop
 returns c =
     let t = c .before .before .before .before .before .args .t1 in
     omega (arith, first-here (passes (c .before .before .before .before .before .args .test)) (c .before .before .before .before .loop .i) 80 (t .places) blank (omega arith) (omega arith) (sym (c .before .passes .ensures) ∙ c .if1 .taken))
 
--- src/lib.rt:134:13
 add-i : tie.Need-add-i Inv-loop μ-loop
 add-i c = search needs
 
--- src/lib.rt:129:9
 loop-less : tie.Need-loop-less Inv-loop μ-loop
 loop-less c = search needs
 
--- src/lib.rt:129:9
 loop-again : tie.Need-loop-again Inv-loop μ-loop
 loop-again c =
     let t = c .before .before .before .before .before .args .t1 in
     (omega (arith, first-next (passes (c .before .before .before .before .before .args .test)) (c .before .before .before .before .loop .i) 80 (t .places) blank (omega arith) (omega arith) (sym (c .before .passes .ensures) ∙ c .if1 .left)), search needs)
 
--- src/lib.rt:124:5
 returns-2 : tie.Need-returns-2 Inv-loop μ-loop
 returns-2 c =
     let t = c .before .before .args .t1 in

@@ -1,32 +1,22 @@
 -- `is_kept` meets its contract: with the counts within the capacity each test is a clause of the rule, and the rest is `Keeping`'s.
 -- Assumes nothing.
+use mathlib.Core.List.{List, _++_, map}
+use mathlib.Core.Bool.{Bool, and-false}
+use mathlib.Core.Path.{_≡_, sym, ap, _∙_}
+use Prim.Native.Nat.{ℕ, _+_, _-_, _≤_}
+use native.Mathlib.Omega.{arith}
+use borrow.Author.Tests.{not-true, not-false}
+use borrow.Author.Needs.{needs}
 use lib.Seq.{length-take-le}
+use lib.ListN.{length, take}
 use Rattle.table.specs.declared.Table.{Table}
+use Rattle.table.specs.Views.{storedOf, opensOf}
+use Rattle.lists.specs.Search.{distinct}
 use Rattle.table.proofs.Keeping.{not-within, counts-fit, within-kept}
 use Rattle.table.proofs.Steps.{distinct-map, live-length}
-use Rattle.table.specs.Views.{storedOf, opensOf}
-use Rattle.rules.specs.States.{fabricZero}
-use Rattle.changes.specs.Logs.{kept as logKept}
 use Rattle.lists.proofs.Arrays.{full}
-use Rattle.lists.specs.Search.{some, distinct}
-use lib.ListN.{length, take}
-use borrow.Author.Tests.{not-true, not-false}
-use native.Mathlib.Omega.{arith}
-use Prim.Native.Nat.{ℕ, _+_, _-_, _≤_, _<_}
-use mathlib.Core.List.{List, _++_, map}
-use mathlib.Core.Bool.{Bool, true, false, not, _&&_, _||_, and-false}
-use mathlib.Core.Path.{_≡_, refl, sym, ap, _∙_}
-use borrow.Author.Needs.{needs}
 use Rattle.table.proofs.Table.is_kept.Statement.{statement}
 use Rattle.table.proofs.Table.is_kept.Tie as tie
-use Rattle.table.proofs.Table.is_kept.Reads as reads
-use Rattle.table.proofs.Table.is_kept.Lts as lts
-use Rattle.changes.proofs.ChangedAttrs.is_kept.Reads as is-kept-reads
-use Rattle.distinct.proofs.all_differ.Reads as all-differ-reads
-use Rattle.table.proofs.Table.count_open_reports.Reads as count-open-reports-reads
-use Rattle.table.proofs.Table.lives.Reads as lives-reads
-use Rattle.table.proofs.cancel_fits.Reads as cancel-fits-reads
-use Rattle.table.proofs.within.Reads as within-reads
 
 long : (c : tie.Start) → length (c .args .self .places) ≡ 80
 long c = full _ (c .args .self .places) (c .good .0 .1 .1 .0 .1 .0 .1)
@@ -41,31 +31,25 @@ differ-is t ids all fits e f =
     ∙ ap (distinct (λ n. n)) e
     ∙ distinct-map (λ x. x .id) (storedOf t ++ opensOf t)
 
--- src/lib.rt:46:13
 within-requires : tie.Need-within-requires
 within-requires c κs = search needs
 
--- src/lib.rt:47:13
 returns : tie.Need-returns
 returns c =
     sym (not-within (c .before .before .args .self) (sym (c .before .within .ensures) ∙ not-true _ (c .if1 .taken)))
 
--- src/lib.rt:50:13
 is-kept-requires : tie.Need-is-kept-requires
 is-kept-requires c κs = search needs
 
--- src/lib.rt:51:13
 returns-2 : tie.Need-returns-2
 returns-2 c =
     let w = sym (c .before .before .before .before .within .ensures) ∙ not-false _ (c .before .before .before .if1 .left) in
     sym (within-kept (c .before .before .before .before .before .args .self) (long (c .before .before .before .before .before)) w ∙ rw (sym (c .before .is-kept .ensures) ∙ not-true _ (c .if2 .taken)))
 
--- src/lib.rt:53:13
 lives-requires : tie.Need-lives-requires
 lives-requires c κs =
     counts-fit (c .before .before .before .before .before .args .self) (long (c .before .before .before .before .before)) (sym (c .before .before .before .before .within .ensures) ∙ not-false _ (c .before .before .before .if1 .left))
 
--- src/lib.rt:55:13
 returns-3 : tie.Need-returns-3
 returns-3 c =
     let t = c .before .before .before .before .before .before .before .args .self in
@@ -74,32 +58,27 @@ returns-3 c =
     ∙ rw (sym (c .before .before .before .is-kept .ensures) ∙ not-false _ (c .before .before .if2 .left), sym (c .before .lives .ensures .orphan-is) ∙ c .if3 .taken)
     (and-false (distinct (λ x. x .id) (storedOf t ++ opensOf t))))
 
--- src/lib.rt:58:17
 add-n : tie.Need-add-n
 add-n c =
     let b = counts-fit (c .before .before .before .before .before .before .before .before .args .self) (long (c .before .before .before .before .before .before .before .before)) (sym (c .before .before .before .before .before .before .before .within .ensures) ∙ not-false _ (c .before .before .before .before .before .before .if1 .left)) in
     let l = c .before .before .lives .ensures .long in
     search needs
 
--- src/lib.rt:59:34
 array-share-prefix-ids : tie.Need-array-share-prefix-ids
 array-share-prefix-ids c =
     let b = counts-fit (c .before .before .before .before .before .before .before .before .args .self) (long (c .before .before .before .before .before .before .before .before)) (sym (c .before .before .before .before .before .before .before .within .ensures) ∙ not-false _ (c .before .before .before .before .before .before .if1 .left)) in
     let l = c .before .before .lives .ensures .long in
     search needs
 
--- src/lib.rt:59:34
 slice-aggregate-all-differ : tie.Need-slice-aggregate-all-differ
 slice-aggregate-all-differ c =
     let t = c .before .before .before .before .before .before .before .before .before .args .self in
     let b = counts-fit t (long (c .before .before .before .before .before .before .before .before .before)) (sym (c .before .before .before .before .before .before .before .before .within .ensures) ∙ not-false _ (c .before .before .before .before .before .before .before .if1 .left)) in
     sym (length-take-le (t .stored + t .opens) (c .before .before .before .lives .result .ids) (omega (arith, c .before .before .before .lives .ensures .long)))
 
--- src/lib.rt:59:13
 all-differ-requires : tie.Need-all-differ-requires
 all-differ-requires c κs = search needs
 
--- src/lib.rt:60:13
 returns-4 : tie.Need-returns-4
 returns-4 c =
     let t = c .before .before .before .before .before .before .before .before .before .before .before .args .self in
@@ -109,17 +88,14 @@ returns-4 c =
     sym (within-kept t (long (c .before .before .before .before .before .before .before .before .before .before .before)) w
     ∙ rw (sym (c .before .before .before .before .before .before .before .is-kept .ensures) ∙ not-false _ (c .before .before .before .before .before .before .if2 .left), sym d ∙ not-true _ (c .if4 .taken)))
 
--- src/lib.rt:62:21
 count-open-reports-requires : tie.Need-count-open-reports-requires
 count-open-reports-requires c κs =
     let b = counts-fit (c .before .before .before .before .before .before .before .before .before .before .before .args .self) (long (c .before .before .before .before .before .before .before .before .before .before .before)) (sym (c .before .before .before .before .before .before .before .before .before .before .within .ensures) ∙ not-false _ (c .before .before .before .before .before .before .before .before .before .if1 .left)) in
     omega arith
 
--- src/lib.rt:62:9
 cancel-fits-requires : tie.Need-cancel-fits-requires
 cancel-fits-requires c κs = search needs
 
--- src/lib.rt:41:5
 returns-5 : tie.Need-returns-5
 returns-5 c =
     let t = c .before .before .before .before .before .before .before .before .before .before .before .before .before .args .self in

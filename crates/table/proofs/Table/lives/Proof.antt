@@ -1,28 +1,17 @@
 -- `lives` meets its contract. The invariant: the ids so far are those of the live ones, and an orphan was met or is still to come.
 -- Assumes nothing.
-use Rattle.table.proofs.Steps.{place-below}
-use Rattle.table.proofs.Steps.{Passing, pass-begin, pass-step, pass-end, live-length, live-at}
 use mathlib.Core.List.{_++_}
-use Rattle.table.proofs.Steps.{least-most}
-use Rattle.table.specs.Tests.{readyBy, ofFabric, served, passes, nextBy, icdDue, seenOf, measured}
-use Rattle.table.specs.Views.{storedOf, opensOf, kept, placeOf}
-use Rattle.rules.specs.States.{capacityFits, isReport, hasId}
-use Rattle.subscription.specs.Life.{blank}
-use Rattle.lists.proofs.Arrays.{full, slice-rest, first-here, first-next, first-done, count-next, count-done, least-next, least-done}
-use Rattle.lists.specs.Search.{one, some, first, count, leastBy}
-use lib.Seq.{slice}
-use lib.ListN.{length, take, drop, getD}
-use borrow.Author.Tests.{eq-eqb, ne-eqb, le-leb, lt-leb, lt-ltb, le-ltb, not-true, not-false}
+use mathlib.Core.Path.{_≡_, refl}
+use Prim.Native.Nat.{_+_, _-_, _≤_}
 use native.Mathlib.Omega.{arith}
-use Prim.Native.Nat.{ℕ, _+_, _-_, _≤_, _<_, min}
-use mathlib.Core.Path.{_≡_, refl, sym, ap, _∙_}
 use borrow.Author.Needs.{needs}
+use lib.ListN.{length, getD}
+use Rattle.table.specs.Views.{storedOf, opensOf, placeOf}
+use Rattle.subscription.specs.Life.{blank}
+use Rattle.table.proofs.Steps.{place-below, Passing, pass-begin, pass-step, pass-end, live-length, live-at}
+use Rattle.lists.proofs.Arrays.{full}
 use Rattle.table.proofs.Table.lives.Statement.{statement}
 use Rattle.table.proofs.Table.lives.Tie as tie
-use Rattle.table.proofs.Table.lives.Reads as reads
-use Rattle.table.proofs.Table.lives.Lts as lts
-use Rattle.table.proofs.either.Reads as either-reads
-use Rattle.table.proofs.place_of.Reads as place-of-reads
 
 abbrev Inv-loop : tie.InvT-loop
 Inv-loop self stored n gap ids₀ orphan₀ i₀ ids orphan i =
@@ -32,26 +21,21 @@ Inv-loop self stored n gap ids₀ orphan₀ i₀ ids orphan i =
 abbrev μ-loop : tie.MeasureT-loop
 μ-loop self stored n gap ids₀ orphan₀ i₀ ids orphan i = n - i
 
--- src/lib.rt:71:17
 add-n : tie.Need-add-n Inv-loop μ-loop
 add-n c = search needs
 
--- src/lib.rt:72:19
 sub-gap : tie.Need-sub-gap Inv-loop μ-loop
 sub-gap c = search needs
 
--- src/lib.rt:76:9
 loop-holds : tie.Need-loop-holds Inv-loop μ-loop
 loop-holds c =
     let t = c .args .t1 in
     let long = full _ (t .places) (c .good .0 .1 .1 .0 .1 .0 .1) in
     (pass-begin (storedOf t ++ opensOf t) _ refl, search needs)
 
--- src/lib.rt:77:17
 place-of-requires : tie.Need-place-of-requires Inv-loop μ-loop
 place-of-requires c κs = search needs
 
--- src/lib.rt:78:21
 mul-x : tie.Need-mul-x Inv-loop μ-loop
 mul-x c =
     let t = c .before .before .before .args .t1 in
@@ -59,7 +43,6 @@ mul-x c =
     let e : c .place-of .result ≡ placeOf (c .before .before .loop .i) (t .stored) (80 - (t .stored + t .opens)) = c .place-of .ensures in
     search needs
 
--- src/lib.rt:78:21
 element-copy-out-x : tie.Need-element-copy-out-x Inv-loop μ-loop
 element-copy-out-x c =
     let t = c .before .before .before .args .t1 in
@@ -67,27 +50,21 @@ element-copy-out-x c =
     let e : c .place-of .result ≡ placeOf (c .before .before .loop .i) (t .stored) (80 - (t .stored + t .opens)) = c .place-of .ensures in
     search needs
 
--- src/lib.rt:79:13
 mul-ids : tie.Need-mul-ids Inv-loop μ-loop
 mul-ids c = search needs
 
--- src/lib.rt:79:13
 array-write-ids : tie.Need-array-write-ids Inv-loop μ-loop
 array-write-ids c = search needs
 
--- src/lib.rt:80:13
 add-i : tie.Need-add-i Inv-loop μ-loop
 add-i c = search needs
 
--- src/lib.rt:81:13
 either-requires : tie.Need-either-requires Inv-loop μ-loop
 either-requires c κs = search needs
 
--- src/lib.rt:76:9
 loop-less : tie.Need-loop-less Inv-loop μ-loop
 loop-less c = search needs
 
--- src/lib.rt:76:9
 loop-again : tie.Need-loop-again Inv-loop μ-loop
 loop-again c =
     let t = c .before .before .before .before .before .before .args .t1 in
@@ -96,7 +73,6 @@ loop-again c =
     let at = live-at (t .places) (t .stored) (t .opens) (omega arith) (omega arith) (k .i) (omega arith) in
     (pass-step (storedOf t ++ opensOf t) (getD (t .places) (c .before .before .before .place-of .result) blank) (k .inv .0) (omega arith) (omega arith) (rw (c .before .before .before .place-of .ensures) at) (c .either .ensures), search needs)
 
--- src/lib.rt:66:5
 returns : tie.Need-returns Inv-loop μ-loop
 returns c =
     let t = c .before .before .args .t1 in

@@ -1,54 +1,32 @@
 -- `note` meets its contract: refused with 7, or the log's own note.
 -- Assumes nothing.
-use Rattle.table.proofs.Refusing.{kept-counts, kept-log, past-kept, no-refusal, unkept}
-use Rattle.table.specs.Calls.{newTable, noteIn, notReported, firstReady, handedOut, handOutIn, reportIn, anyAt, nextAt, aliveAt, loadOf, hasAt, asking}
-use Rattle.table.specs.Moves.{withLog, takenOut, openedUp}
-use Rattle.table.specs.Views.{storedOf, opensOf, view, kept, refusalAt, freshTable}
-use Rattle.table.specs.declared.Alive.the-variants as alive
-use Rattle.table.specs.declared.Moment.the-variants as moment
-use Rattle.rules.proofs.Clauses.{note-objects, report-objects, report-open-is, instant-objects, any-objects, alive-objects, statistics-objects, has-objects, first-holds, first-passed, first-none}
-use Rattle.rules.specs.States.{capacityFits, isReport}
-use Rattle.rules.specs.Calls as call
-use Rattle.changes.proofs.Promises.{mark-answer, newest-answer}
-use Rattle.changes.specs.declared.Told.the-variants as told
-use Rattle.changes.specs.Numbers.{markValue}
-use Rattle.changes.specs.Logs.{watermarkOf, newestOf}
-use Rattle.lists.specs.Search.{some, first}
-use lib.ListN.{length, take, drop}
-use borrow.Author.Tests.{eq-eqb, ne-eqb, le-leb, lt-ltb, le-ltb, not-true, not-false}
-use native.Mathlib.Omega.{arith}
-use Prim.Native.Nat.{ℕ, _+_, _-_, _≤_, _<_}
-use mathlib.Core.Bool.{true, false, _&&_}
-use mathlib.Core.Path.{_≡_, refl, sym, ap, _∙_}
+use mathlib.Core.Path.{sym, _∙_}
+use Prim.Native.Nat.{_-_}
+use borrow.Author.Tests.{not-true, not-false}
 use borrow.Author.Needs.{needs}
+use Rattle.table.specs.Calls.{noteIn}
+use Rattle.table.specs.Views.{view}
+use Rattle.rules.specs.Calls as call
+use Rattle.table.proofs.Refusing.{no-refusal, unkept}
+use Rattle.rules.proofs.Clauses.{note-objects}
 use Rattle.table.proofs.Table.note.Statement.{statement}
 use Rattle.table.proofs.Table.note.Tie as tie
-use Rattle.table.proofs.Table.note.Reads as reads
-use Rattle.table.proofs.Table.note.Lts as lts
-use Rattle.changes.proofs.ChangedAttrs.note.Reads as note-reads
-use Rattle.table.proofs.Table.is_kept.Reads as is-kept-reads
-use Rattle.table.proofs.Table.with_log.Reads as with-log-reads
 
--- src/lib.rt:127:13
 is-kept-requires : tie.Need-is-kept-requires
 is-kept-requires c κs = search needs
 
--- src/lib.rt:128:13
 returns : tie.Need-returns
 unfolding noteIn
 returns c =
     let a = c .before .before .args in
     rw (unkept (a .self) (sym (c .before .is-kept .ensures) ∙ not-true _ (c .if1 .taken)) (call.note (a .endpoint) (a .cluster) (a .attr)), noteIn)
 
--- src/lib.rt:135:13
 note-requires : tie.Need-note-requires
 note-requires c κs = search needs
 
--- src/lib.rt:142:20
 with-log-requires : tie.Need-with-log-requires
 with-log-requires c κs = search needs
 
--- src/lib.rt:124:5
 returns-2 : tie.Need-returns-2
 unfolding noteIn
 returns-2 c =

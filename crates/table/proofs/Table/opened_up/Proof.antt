@@ -1,48 +1,24 @@
 -- `opened_up` meets its contract: a store at the far end, and one open one more.
 -- Assumes nothing.
-use Rattle.table.proofs.Refusing.{kept-counts, kept-log, past-kept, no-refusal, unkept}
-use Rattle.table.specs.Calls.{newTable, noteIn, notReported, firstReady, handedOut, handOutIn, reportIn, anyAt, nextAt, aliveAt, loadOf, hasAt, asking}
-use Rattle.table.specs.Moves.{withLog, takenOut, openedUp}
-use Rattle.table.specs.Views.{storedOf, opensOf, view, kept, refusalAt, freshTable}
-use Rattle.table.specs.declared.Alive.the-variants as alive
-use Rattle.table.specs.declared.Moment.the-variants as moment
-use Rattle.rules.proofs.Clauses.{note-objects, report-objects, report-open-is, instant-objects, any-objects, alive-objects, statistics-objects, has-objects, first-holds, first-passed, first-none}
-use Rattle.rules.specs.States.{capacityFits, isReport}
-use Rattle.rules.specs.Calls as call
-use Rattle.changes.proofs.Promises.{mark-answer, newest-answer}
-use Rattle.changes.specs.declared.Told.the-variants as told
-use Rattle.changes.specs.Numbers.{markValue}
-use Rattle.changes.specs.Logs.{watermarkOf, newestOf}
-use Rattle.lists.specs.Search.{some, first}
-use lib.ListN.{length, take, drop}
-use borrow.Author.Tests.{eq-eqb, ne-eqb, le-leb, lt-ltb, le-ltb, not-true, not-false}
-use native.Mathlib.Omega.{arith}
-use Prim.Native.Nat.{ℕ, _+_, _-_, _≤_, _<_}
-use mathlib.Core.Bool.{true, false, _&&_}
-use mathlib.Core.Path.{_≡_, refl, sym, ap, _∙_}
+use mathlib.Core.Path.{refl}
+use Prim.Native.Nat.{_-_}
 use borrow.Author.Needs.{needs}
+use Rattle.table.specs.Moves.{openedUp}
 use Rattle.table.proofs.Table.opened_up.Statement.{statement}
 use Rattle.table.proofs.Table.opened_up.Tie as tie
-use Rattle.table.proofs.Table.opened_up.Reads as reads
-use Rattle.table.proofs.Table.opened_up.Lts as lts
 
--- src/lib.rt:422:18
 sub-at : tie.Need-sub-at
 sub-at c = search needs
 
--- src/lib.rt:423:9
 mul-x : tie.Need-mul-x
 mul-x c = search needs
 
--- src/lib.rt:423:9
 element-set-from-x : tie.Need-element-set-from-x
 element-set-from-x c = search needs
 
--- src/lib.rt:424:22
 add-self : tie.Need-add-self
 add-self c = search needs
 
--- src/lib.rt:417:5
 returns : tie.Need-returns
 unfolding openedUp
 returns c = refl

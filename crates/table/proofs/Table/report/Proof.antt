@@ -1,59 +1,47 @@
 -- `report` meets its contract: refused with 7, refused with 3 where the scan of the open ones finds a report, or `hand_out`'s.
 -- Assumes nothing.
-use Rattle.table.proofs.Refusing.{kept-counts, kept-log, past-kept, unkept}
-use Rattle.table.proofs.Steps.{open-there}
+use mathlib.Core.List.{[]}
+use mathlib.Core.Path.{_≡_, sym, ap, _∙_}
+use Prim.Native.Nat.{_-_}
+use native.Mathlib.Omega.{arith}
+use borrow.Author.Tests.{lt-ltb, le-ltb, not-true, not-false}
+use borrow.Author.Needs.{needs}
+use lib.ListN.{length}
+use Rattle.refusal.specs.declared.Refusal.the-variants.{ReportOpen}
 use Rattle.table.specs.Calls.{reportIn}
-use Rattle.table.specs.Views.{opensOf, view}
-use Rattle.rules.proofs.Clauses.{report-objects, report-open-is, first-holds, first-passed, first-none}
+use Rattle.table.specs.Views.{view}
 use Rattle.rules.specs.Machine.{firstOf}
 use Rattle.rules.specs.States.{isReport}
 use Rattle.rules.specs.Calls as call
-use mathlib.Core.List.{[]}
-use Rattle.refusal.specs.declared.Refusal.the-variants.{ReportOpen}
+use Rattle.table.proofs.Refusing.{kept-counts, kept-log, past-kept, unkept}
+use Rattle.table.proofs.Steps.{open-there}
+use Rattle.rules.proofs.Clauses.{report-objects, report-open-is, first-holds, first-passed, first-none}
 use Rattle.lists.proofs.Arrays.{full}
-use lib.ListN.{length}
-use borrow.Author.Tests.{lt-ltb, le-ltb, not-true, not-false}
-use native.Mathlib.Omega.{arith}
-use Prim.Native.Nat.{ℕ, _+_, _-_, _≤_, _<_}
-use mathlib.Core.Path.{_≡_, refl, sym, ap, _∙_}
-use borrow.Author.Needs.{needs}
 use Rattle.table.proofs.Table.report.Statement.{statement}
 use Rattle.table.proofs.Table.report.Tie as tie
-use Rattle.table.proofs.Table.report.Reads as reads
-use Rattle.table.proofs.Table.report.Lts as lts
-use Rattle.table.proofs.Table.find_open.Reads as find-open-reads
-use Rattle.table.proofs.Table.hand_out.Reads as hand-out-reads
-use Rattle.table.proofs.Table.is_kept.Reads as is-kept-reads
-use Rattle.table.proofs.Table.not_reported.Reads as not-reported-reads
 
 long : (c : tie.Start) → length (c .args .self .places) ≡ 80
 long c = full _ (c .args .self .places) (c .good .0 .1 .1 .0 .1 .0 .1)
 
--- src/lib.rt:150:13
 is-kept-requires : tie.Need-is-kept-requires
 is-kept-requires c κs = search needs
 
--- src/lib.rt:151:13
 not-reported-requires : tie.Need-not-reported-requires
 not-reported-requires c κs = search needs
 
--- src/lib.rt:151:13
 returns : tie.Need-returns
 unfolding reportIn
 returns c =
     rw (unkept (c .before .before .before .args .self) (sym (c .before .before .is-kept .ensures) ∙ not-true _ (c .before .if1 .taken)) (call.report (c .before .before .before .args .at)), reportIn) (c .not-reported .ensures)
 
--- src/lib.rt:153:12
 find-open-requires : tie.Need-find-open-requires
 find-open-requires c κs =
     let b = kept-counts (c .before .before .args .self) (sym (c .before .is-kept .ensures) ∙ not-false _ (c .if1 .left)) in
     omega arith
 
--- src/lib.rt:154:13
 not-reported-requires-2 : tie.Need-not-reported-requires-2
 not-reported-requires-2 c κs = search needs
 
--- src/lib.rt:154:13
 returns-2 : tie.Need-returns-2
 unfolding reportIn
 returns-2 c =
@@ -63,13 +51,11 @@ returns-2 c =
     let there = report-open-is (view t) ∙ sym (open-there t (long (c .before .before .before .before .before)) (omega arith) isReport (c .before .before .find-open .ensures)) ∙ lt-ltb _ _ (c .before .if2 .taken) in
     rw (past-kept t k (call.report (c .before .before .before .before .before .args .at)) ∙ ap firstOf (report-objects (view t) (c .before .before .before .before .before .args .at)) ∙ first-holds ReportOpen [] there, reportIn) (c .not-reported2 .ensures)
 
--- src/lib.rt:156:9
 hand-out-requires : tie.Need-hand-out-requires
 hand-out-requires c κs =
     let k = sym (c .before .before .before .is-kept .ensures) ∙ not-false _ (c .before .before .if1 .left) in
     (kept-counts (c .before .before .before .before .args .self) k, kept-log (c .before .before .before .before .args .self) k)
 
--- src/lib.rt:147:5
 returns-3 : tie.Need-returns-3
 unfolding reportIn
 returns-3 c =

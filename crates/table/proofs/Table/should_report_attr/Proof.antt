@@ -1,46 +1,27 @@
 -- `should_report_attr` meets its contract: the tests are the objections, in their order, and the scan finds the open one.
 -- Assumes nothing.
-use Rattle.table.proofs.Refusing.{kept-counts, kept-log, past-kept, unkept}
-use Rattle.table.specs.Calls.{openAt, endedAt, completeIn, attributeAt, sendAt}
-use Rattle.table.specs.Views.{storedOf, opensOf, view, refusalAt}
-use Rattle.changes.proofs.Promises.{path-answer}
-use Rattle.refusal.specs.declared.Refusal.the-variants.{BadArgument, NotOpen}
-use Rattle.table.proofs.Refusing.{kept-counts, kept-log, past-kept, unkept, add-same, resume-same}
-use Rattle.table.proofs.Steps.{open-there}
-use Rattle.table.specs.Calls.{admitObjections, asVerdict, addTo, resumeIn, openAt, endedAt, completeIn, attributeAt, sendAt}
-use Rattle.table.specs.Moves.{withReason, storedLast, openedUp, closedAt}
-use Rattle.table.specs.Views.{storedOf, opensOf, view}
+use mathlib.Core.List.{[]}
+use mathlib.Core.Bool.{not}
+use mathlib.Core.Path.{_≡_, sym, ap, _∙_}
+use Prim.Native.Nat.{_-_}
+use native.Mathlib.Omega.{arith}
+use borrow.Author.Tests.{lt-ltb, le-ltb, not-true, not-false}
+use borrow.Author.Needs.{needs}
+use lib.ListN.{length}
+use Rattle.refusal.specs.declared.Refusal.the-variants.{NotOpen}
 use Rattle.table.specs.declared.Table.{Table}
-use Rattle.rules.proofs.Clauses.{complete-objects, attribute-objects, send-objects, first-holds, first-passed, first-none}
+use Rattle.table.specs.Calls.{openAt, attributeAt}
+use Rattle.table.specs.Views.{view}
 use Rattle.rules.specs.Machine.{firstOf}
 use Rattle.rules.specs.States.{hasId}
 use Rattle.rules.specs.Calls as call
-use Rattle.changes.proofs.Promises.{mark-answer, path-answer}
-use Rattle.changes.specs.declared.Told.the-variants as told
-use Rattle.changes.specs.Numbers.{markValue}
-use Rattle.changes.specs.Logs.{watermarkOf}
-use Rattle.refusal.specs.declared.Refusal.the-variants.{BadArgument, Full, IdLive, NotOpen}
-use Rattle.lists.proofs.Searches.{first-some}
+use Rattle.table.proofs.Refusing.{kept-counts, kept-log, past-kept, unkept}
+use Rattle.changes.proofs.Promises.{path-answer}
+use Rattle.table.proofs.Steps.{open-there}
+use Rattle.rules.proofs.Clauses.{attribute-objects, first-holds, first-passed, first-none}
 use Rattle.lists.proofs.Arrays.{full}
-use Rattle.lists.specs.Search.{some, first}
-use lib.Seq.{length-take-le}
-use lib.ListN.{length}
-use lib.Dec.{eqb}
-use borrow.Author.Tests.{eq-eqb, ne-eqb, le-leb, lt-leb, lt-ltb, le-ltb, not-true, not-false}
-use native.Mathlib.Omega.{arith}
-use Prim.Native.Nat.{ℕ, _+_, _-_, _≤_, _<_}
-use mathlib.Core.List.{[], _∷_}
-use mathlib.Core.Bool.{true, false, cond, not, _&&_, _||_}
-use mathlib.Core.Path.{_≡_, refl, sym, ap, _∙_}
-use borrow.Author.Needs.{needs}
 use Rattle.table.proofs.Table.should_report_attr.Statement.{statement}
 use Rattle.table.proofs.Table.should_report_attr.Tie as tie
-use Rattle.table.proofs.Table.should_report_attr.Reads as reads
-use Rattle.table.proofs.Table.should_report_attr.Lts as lts
-use Rattle.changes.proofs.ChangedAttrs.contains_since.Reads as contains-since-reads
-use Rattle.table.proofs.Table.find_open.Reads as find-open-reads
-use Rattle.table.proofs.Table.is_kept.Reads as is-kept-reads
-use Rattle.time.proofs.Instant.is_never.Reads as is-never-reads
 
 abbrev self-of : (c : tie.Start) → Table
 self-of c = c .args .t1
@@ -48,24 +29,20 @@ self-of c = c .args .t1
 long : (c : tie.Start) → length (c .args .t1 .places) ≡ 80
 long c = full _ (c .args .t1 .places) (c .good .0 .1 .1 .0 .1 .0 .1)
 
--- src/lib.rt:222:13
 is-kept-requires : tie.Need-is-kept-requires
 is-kept-requires c κs = search needs
 
--- src/lib.rt:223:13
 returns : tie.Need-returns
 unfolding attributeAt
 returns c =
     let a = c .before .before .args in
     rw (unkept (self-of (c .before .before)) (sym (c .before .is-kept .ensures) ∙ not-true _ (c .if1 .taken)) (call.attribute (a .id) (a .endpoint) (a .cluster) (a .attr)), attributeAt)
 
--- src/lib.rt:225:13
 find-open-requires : tie.Need-find-open-requires
 find-open-requires c κs =
     let b = kept-counts (self-of (c .before .before)) (sym (c .before .is-kept .ensures) ∙ not-false _ (c .if1 .left)) in
     omega arith
 
--- src/lib.rt:227:13
 returns-2 : tie.Need-returns-2
 unfolding attributeAt
 returns-2 c =
@@ -76,19 +53,15 @@ returns-2 c =
     let none = ap not (sym (open-there t (long (c .before .before .before .before)) (omega arith) (hasId (a .id)) (c .before .find-open .ensures)) ∙ le-ltb _ _ (c .if2 .taken)) in
     rw (past-kept t k (call.attribute (a .id) (a .endpoint) (a .cluster) (a .attr)) ∙ ap firstOf (attribute-objects (view t) (a .id) (a .endpoint) (a .cluster) (a .attr)) ∙ first-holds NotOpen [] none, attributeAt)
 
--- src/lib.rt:229:17
 mul-x : tie.Need-mul-x
 mul-x c = search needs
 
--- src/lib.rt:229:17
 element-copy-out-x : tie.Need-element-copy-out-x
 element-copy-out-x c = search needs
 
--- src/lib.rt:231:12
 is-never-requires : tie.Need-is-never-requires
 is-never-requires c κs = search needs
 
--- src/lib.rt:232:13
 returns-3 : tie.Need-returns-3
 unfolding attributeAt openAt
 returns-3 c =
@@ -99,11 +72,9 @@ returns-3 c =
     let there = ap not (sym (open-there t (long (c .before .before .before .before .before .before .before .before)) (omega arith) (hasId (a .id)) (c .before .before .before .before .before .find-open .ensures)) ∙ lt-ltb _ _ (c .before .before .before .before .if2 .left)) in
     rw (past-kept t k (call.attribute (a .id) (a .endpoint) (a .cluster) (a .attr)) ∙ ap firstOf (attribute-objects (view t) (a .id) (a .endpoint) (a .cluster) (a .attr)) ∙ first-passed NotOpen [] there ∙ first-none, ← c .before .before .before .before .before .find-open .ensures, sym (c .before .is-never .ensures) ∙ c .if3 .taken, attributeAt)
 
--- src/lib.rt:235:9
 contains-since-requires : tie.Need-contains-since-requires
 contains-since-requires c κs = search needs
 
--- src/lib.rt:219:5
 returns-4 : tie.Need-returns-4
 unfolding attributeAt openAt
 returns-4 c =

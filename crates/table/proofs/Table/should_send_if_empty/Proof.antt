@@ -1,45 +1,27 @@
 -- `should_send_if_empty` meets its contract: the tests are the objections, in their order, and the scan finds the open one.
 -- Assumes nothing.
-use Rattle.table.proofs.Refusing.{kept-counts, kept-log, past-kept, unkept}
-use Rattle.table.specs.Calls.{openAt, endedAt, completeIn, attributeAt, sendAt}
-use Rattle.table.specs.Views.{storedOf, opensOf, view, refusalAt}
-use Rattle.changes.proofs.Promises.{path-answer}
-use Rattle.refusal.specs.declared.Refusal.the-variants.{BadArgument, NotOpen}
-use Rattle.table.proofs.Refusing.{kept-counts, kept-log, past-kept, unkept, add-same, resume-same}
-use Rattle.table.proofs.Steps.{open-there}
-use Rattle.table.specs.Calls.{admitObjections, asVerdict, addTo, resumeIn, openAt, endedAt, completeIn, attributeAt, sendAt}
-use Rattle.table.specs.Moves.{withReason, storedLast, openedUp, closedAt}
-use Rattle.table.specs.Views.{storedOf, opensOf, view}
+use mathlib.Core.List.{[]}
+use mathlib.Core.Bool.{not}
+use mathlib.Core.Path.{_≡_, sym, ap, _∙_}
+use Prim.Native.Nat.{_-_}
+use native.Mathlib.Omega.{arith}
+use borrow.Author.Tests.{lt-ltb, le-ltb, not-true, not-false}
+use borrow.Author.Needs.{needs}
+use lib.ListN.{length}
+use Rattle.refusal.specs.declared.Refusal.the-variants.{NotOpen}
 use Rattle.table.specs.declared.Table.{Table}
-use Rattle.rules.proofs.Clauses.{complete-objects, attribute-objects, send-objects, first-holds, first-passed, first-none}
+use Rattle.changes.specs.declared.Told.the-variants as told
+use Rattle.table.specs.Calls.{openAt, sendAt}
+use Rattle.table.specs.Views.{view}
 use Rattle.rules.specs.Machine.{firstOf}
 use Rattle.rules.specs.States.{hasId}
 use Rattle.rules.specs.Calls as call
-use Rattle.changes.proofs.Promises.{mark-answer, path-answer}
-use Rattle.changes.specs.declared.Told.the-variants as told
-use Rattle.changes.specs.Numbers.{markValue}
-use Rattle.changes.specs.Logs.{watermarkOf}
-use Rattle.refusal.specs.declared.Refusal.the-variants.{BadArgument, Full, IdLive, NotOpen}
-use Rattle.lists.proofs.Searches.{first-some}
+use Rattle.table.proofs.Refusing.{kept-counts, past-kept, unkept}
+use Rattle.table.proofs.Steps.{open-there}
+use Rattle.rules.proofs.Clauses.{send-objects, first-holds, first-passed, first-none}
 use Rattle.lists.proofs.Arrays.{full}
-use Rattle.lists.specs.Search.{some, first}
-use lib.Seq.{length-take-le}
-use lib.ListN.{length}
-use lib.Dec.{eqb}
-use borrow.Author.Tests.{eq-eqb, ne-eqb, le-leb, lt-leb, lt-ltb, le-ltb, not-true, not-false}
-use native.Mathlib.Omega.{arith}
-use Prim.Native.Nat.{ℕ, _+_, _-_, _≤_, _<_}
-use mathlib.Core.List.{[], _∷_}
-use mathlib.Core.Bool.{true, false, cond, not, _&&_, _||_}
-use mathlib.Core.Path.{_≡_, refl, sym, ap, _∙_}
-use borrow.Author.Needs.{needs}
 use Rattle.table.proofs.Table.should_send_if_empty.Statement.{statement}
 use Rattle.table.proofs.Table.should_send_if_empty.Tie as tie
-use Rattle.table.proofs.Table.should_send_if_empty.Reads as reads
-use Rattle.table.proofs.Table.should_send_if_empty.Lts as lts
-use Rattle.subscription.proofs.Subscription.is_report_due.Reads as is-report-due-reads
-use Rattle.table.proofs.Table.find_open.Reads as find-open-reads
-use Rattle.table.proofs.Table.is_kept.Reads as is-kept-reads
 
 abbrev self-of : (c : tie.Start) → Table
 self-of c = c .args .t1
@@ -47,24 +29,20 @@ self-of c = c .args .t1
 long : (c : tie.Start) → length (c .args .t1 .places) ≡ 80
 long c = full _ (c .args .t1 .places) (c .good .0 .1 .1 .0 .1 .0 .1)
 
--- src/lib.rt:242:13
 is-kept-requires : tie.Need-is-kept-requires
 is-kept-requires c κs = search needs
 
--- src/lib.rt:243:13
 returns : tie.Need-returns
 unfolding sendAt
 returns c =
     let a = c .before .before .args in
     rw (unkept (self-of (c .before .before)) (sym (c .before .is-kept .ensures) ∙ not-true _ (c .if1 .taken)) (call.sendIfEmpty (a .id) (a .kind)), sendAt)
 
--- src/lib.rt:245:13
 find-open-requires : tie.Need-find-open-requires
 find-open-requires c κs =
     let b = kept-counts (self-of (c .before .before)) (sym (c .before .is-kept .ensures) ∙ not-false _ (c .if1 .left)) in
     omega arith
 
--- src/lib.rt:247:13
 returns-2 : tie.Need-returns-2
 unfolding sendAt
 returns-2 c =
@@ -75,19 +53,15 @@ returns-2 c =
     let none = ap not (sym (open-there t (long (c .before .before .before .before)) (omega arith) (hasId (a .id)) (c .before .find-open .ensures)) ∙ le-ltb _ _ (c .if2 .taken)) in
     rw (past-kept t k (call.sendIfEmpty (a .id) (a .kind)) ∙ ap firstOf (send-objects (view t) (a .id) (a .kind)) ∙ first-holds NotOpen [] none, sendAt)
 
--- src/lib.rt:249:17
 mul-x : tie.Need-mul-x
 mul-x c = search needs
 
--- src/lib.rt:249:17
 element-copy-out-x : tie.Need-element-copy-out-x
 element-copy-out-x c = search needs
 
--- src/lib.rt:251:18
 is-report-due-requires : tie.Need-is-report-due-requires
 is-report-due-requires c κs = search needs
 
--- src/lib.rt:239:5
 returns-3 : tie.Need-returns-3
 unfolding sendAt openAt
 returns-3 c =
