@@ -1,3 +1,4 @@
 pub mod Steps
 pub mod Keeping
 pub mod Refusing
+pub mod Sweeping

@@ -8,6 +8,8 @@ use mathlib.Core.Option.{some as just}
 use Prim.Native.Nat.{ℕ, _+_, _-_}
 use lib.Dec.{eqb, ltb, leb}
 use lib.ListN.{getD}
+use Rattle.subscription.specs.declared.Choice.{Choice}
+use Rattle.table.specs.declared.Woken.{Woken}
 use Rattle.refusal.specs.declared.Refusal.{Refusal}
 use Rattle.refusal.specs.declared.Refusal.the-variants.{BadArgument, Full, IdLive}
 use Rattle.time.specs.declared.Instant.{Instant}
@@ -26,6 +28,7 @@ use Rattle.table.specs.declared.Completed.{Completed}
 use Rattle.table.specs.declared.Moment.{Moment}
 use Rattle.table.specs.declared.Alive.{Alive}
 use Rattle.table.specs.declared.Loaded.{Loaded}
+use Rattle.table.specs.declared.Waking.the-variants as waking
 use Rattle.changes.specs.declared.Change.the-variants as change
 use Rattle.changes.specs.declared.Told.the-variants as told
 use Rattle.table.specs.declared.Hearing.the-variants as hearing
@@ -36,16 +39,17 @@ use Rattle.table.specs.declared.Completion.the-variants as completion
 use Rattle.table.specs.declared.Moment.the-variants as moment
 use Rattle.table.specs.declared.Alive.the-variants as alive
 use Rattle.table.specs.declared.Loaded.the-variants as loaded
+use Rattle.changes.specs.Logs.{purged, cleared, watermarkOf, newestOf, noted, changedSince}
+use Rattle.subscription.specs.Choices.{chosen}
+use Rattle.rules.specs.States.{isReport, capacityFits, hasId}
+use Rattle.table.specs.Tests.{struck, seenOf, readyBy, ofFabric, served, nextBy, icdDue}
+use Rattle.table.specs.Moves.{sweptOut, emptied, withNextId, withReason, withLog, takenOut, storedLast, openedUp, closedAt}
 use Rattle.lists.specs.Search.{some, count, first, leastBy}
 use Rattle.time.specs.Instants.{instant, lastInstant, neverReported}
-use Rattle.changes.specs.Logs.{watermarkOf, newestOf, noted, changedSince}
 use Rattle.subscription.specs.Life.{blank, priming, resumed, opened, closed, keeps, failed}
 use Rattle.subscription.specs.When.{isDue}
-use Rattle.rules.specs.States.{capacityFits, hasId}
 use Rattle.rules.specs.Machine.{Objection, nextIdAfter}
 use Rattle.table.specs.Views.{storedOf, opensOf, freshTable, refusalAt}
-use Rattle.table.specs.Tests.{readyBy, ofFabric, served, nextBy, icdDue}
-use Rattle.table.specs.Moves.{withNextId, withReason, withLog, takenOut, storedLast, openedUp, closedAt}
 use Rattle.rules.specs.Calls as call
 
 -- by what a call is refused with, if it is
@@ -212,3 +216,40 @@ unfoldable pub sendAt : Table → ℕ → KeepAlive → Told
 sendAt t id kind =
     let x : Subscription = getD (t .places) (openAt t id) blank in
     settledBy (refusalAt (call.sendIfEmpty id kind) t) told.Refused (told.Is (isDue x (x .opened) kind))
+
+-- ---- removal, clearing and purging
+
+abbrev pub notWoken : Table → Refusal → Woken
+notWoken t why = record { answer = waking.Refused why; table = t }
+
+-- "then cancels the open report if it matches and isn't cancelled yet"
+unfoldable pub cancelsIn : Table → Choice → Bool
+cancelsIn t choice = eqb (t .cancel) 0 && some (struck choice) (opensOf t)
+
+-- "removes the first match repeatedly, then cancels the open report"; "It wakes exactly when something was removed or cancelled."
+unfoldable pub removeIn : Table → Choice → ℕ → Woken
+removeIn t choice reason =
+    settledBy (refusalAt (call.remove choice reason) t) (notWoken t)
+    (record {
+      answer = waking.Wakes (some (chosen choice) (storedOf t) || cancelsIn t choice);
+      table = withReason (sweptOut (chosen choice) t) (cond (cancelsIn t choice) reason (t .cancel));
+    })
+
+-- "Clear empties the stored ones and cancels the report with reason 255, over an earlier reason. It doesn't wake."
+unfoldable pub clearIn : Table → Woken
+clearIn t =
+    settledBy (refusalAt call.clear t) (notWoken t)
+    (record { answer = waking.Wakes false; table = withReason (emptied t) (cond (some isReport (opensOf t)) 255 (t .cancel)) })
+
+-- "Purge does nothing while anything is open. Else it purges up to the least seen watermark, or empties the log if none is stored."
+unfoldable pub purgedTable : Table → Table
+purgedTable t =
+    cond (ltb 0 (t .opens)) t
+    (cond (ltb 0 (t .stored))
+    (withLog t (purged (t .log) (leastBy seenOf (getD (t .places) 0 blank .seen) (storedOf t)) .log))
+    (withLog t (cleared (t .log) .log)))
+
+unfoldable pub purgeIn : Table → Settled
+purgeIn t =
+    settledBy (refusalAt call.purge t) (λ why. record { answer = change.Refused why; table = t })
+    (record { answer = change.Done; table = purgedTable t })

@@ -5,9 +5,10 @@ use Prim.Native.Nat.{ℕ}
 use lib.Dec.{eqb, ltb}
 use Rattle.time.specs.declared.KeepAlive.the-variants.{Icd}
 use Rattle.subscription.specs.declared.Subscription.{Subscription}
+use Rattle.subscription.specs.declared.Choice.{Choice}
 use Rattle.subscription.specs.declared.Settings.{Settings}
 use Rattle.table.specs.declared.Test.{Test}
-use Rattle.table.specs.declared.Test.the-variants.{Id, Report, Priming, Ready, Chosen, Fabric, Served}
+use Rattle.table.specs.declared.Test.the-variants.{Id, Report, Priming, Ready, Chosen, Struck, Fabric, Served}
 use Rattle.table.specs.declared.Measure.{Measure}
 use Rattle.table.specs.declared.Measure.the-variants.{Next, Due, Seen}
 use Rattle.subscription.specs.When.{dueOf, reportable, nextOf}
@@ -26,6 +27,10 @@ ofFabric fabric x = eqb (x .fabric) fabric
 unfoldable pub served : ℕ → ℕ → Subscription → Bool
 served fabric peer x = eqb (x .fabric) fabric && (eqb (x .peer) peer && eqb (x .fails) 0)
 
+-- the open report, where the choice takes it
+unfoldable pub struck : Choice → Subscription → Bool
+struck choice x = isReport x && chosen choice x
+
 -- what a scan looks for
 abbrev pub passes : Test → Subscription → Bool
 passes (Id id) = hasId id
@@ -33,6 +38,7 @@ passes Report = isReport
 passes Priming = isPriming
 passes (Ready at newest) = readyBy at newest
 passes (Chosen choice) = chosen choice
+passes (Struck choice) = struck choice
 passes (Fabric fabric) = ofFabric fabric
 passes (Served fabric peer) = served fabric peer
 

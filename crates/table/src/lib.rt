@@ -9,13 +9,14 @@ ghost use lib.Dec.{leb, ltb, eqb};
 ghost use lib.ListN.{take, drop, length};
 ghost use Rattle.lists.specs.Search.{one, some, count, first, leastBy};
 ghost use Rattle.rules.specs.States.{capacityFits, isReport, hasId};
-ghost use Rattle.rules.specs.Machine.{firstOf, nextIdAfter};
+ghost use Rattle.rules.specs.Machine.{firstOf, nextIdAfter, badReason};
+ghost use Rattle.subscription.specs.Choices.{chosen};
 ghost use Rattle.subscription.specs.Life.{closed};
 ghost use Rattle.changes.specs.Logs.{kept as logKept};
 ghost use Rattle.table.specs.Views.{freshTable, storedOf, opensOf, placeOf, Lived, kept};
-ghost use Rattle.table.specs.Tests.{ofFabric, served, passes, measured};
-ghost use Rattle.table.specs.Moves.{withNextId, withReason, withLog, takenOut, storedLast, openedUp, closedAt};
-ghost use Rattle.table.specs.Calls.{newTable, admitObjections, asVerdict, notAdmitted, addTo, resumeIn, notCompleted, staysAfter, endedAt, completeIn, attributeAt, sendAt, noteIn, notReported, handOutIn, reportIn, anyAt, nextAt, aliveAt, loadOf, hasAt};
+ghost use Rattle.table.specs.Tests.{ofFabric, served, struck, passes, measured};
+ghost use Rattle.table.specs.Moves.{withNextId, withReason, withLog, takenOut, storedLast, openedUp, closedAt, sweptOut, emptied};
+ghost use Rattle.table.specs.Calls.{newTable, admitObjections, asVerdict, notAdmitted, addTo, resumeIn, notCompleted, staysAfter, endedAt, completeIn, attributeAt, sendAt, notWoken, cancelsIn, removeIn, clearIn, purgedTable, purgeIn, noteIn, notReported, handOutIn, reportIn, anyAt, nextAt, aliveAt, loadOf, hasAt};
 use changes::Change;
 use changes::ChangedAttrs;
 use changes::Told;
@@ -30,6 +31,9 @@ use time::KeepAlive;
 
 // How many places there are.
 const PLACES: usize = 80;
+
+// The reason with which clearing cancels the open report.
+const CLEARED: u8 = 255;
 
 pub struct Table {
     // The stored ones are the first `stored`, the open ones the last `opens`; a place between them is blank.
@@ -112,6 +116,16 @@ pub enum HandOut {
 
 pub struct Reported {
     pub answer: HandOut,
+    pub table: Table,
+}
+
+pub enum Waking {
+    Wakes(bool),
+    Refused(Refusal),
+}
+
+pub struct Woken {
+    pub answer: Waking,
     pub table: Table,
 }
 
@@ -213,6 +227,62 @@ impl Table {
             return self.not_completed(Refusal::NotOpen);
         }
         self.ended(at, outcome)
+    }
+
+    // The stored ones that the choice takes go, and the open report is cancelled if it is among them. Primings stay.
+    pub fn remove(self, choice: Choice, reason: u8) -> Woken
+        ensures { λ r. ⌜ r ≡ removeIn self choice reason ⌝ }
+    {
+        if !self.is_kept() {
+            return self.not_woken(Refusal::NotWellKept);
+        }
+        if is_bad_reason(reason) {
+            return self.not_woken(Refusal::BadArgument);
+        }
+        let cancels = self.cancels(choice);
+        let wakes = either(
+            self.find_stored(Test::Chosen(choice)) < self.stored,
+            cancels,
+        );
+        Woken {
+            answer: Waking::Wakes(wakes),
+            table: self.swept(choice)
+                .with_cancel(reason_after(cancels, reason, self.cancel)),
+        }
+    }
+
+    // Every stored one goes, and the open report is cancelled. It does not wake.
+    pub fn clear(self) -> Woken
+        ensures { λ r. ⌜ r ≡ clearIn self ⌝ }
+    {
+        if !self.is_kept() {
+            return self.not_woken(Refusal::NotWellKept);
+        }
+        if self.find_open(Test::Priming) < 80 {
+            return self.not_woken(Refusal::PrimingOpen);
+        }
+        let cancels = self.find_open(Test::Report) < 80;
+        Woken {
+            answer: Waking::Wakes(false),
+            table: self.emptied()
+                .with_cancel(reason_after(cancels, CLEARED, self.cancel)),
+        }
+    }
+
+    // Entries of the log that every stored one has seen go, unless something is open.
+    pub fn purge_reported_changes(self) -> Settled
+        ensures { λ r. ⌜ r ≡ purgeIn self ⌝ }
+    {
+        if !self.is_kept() {
+            return Settled {
+                answer: Change::Refused(Refusal::NotWellKept),
+                table: self,
+            };
+        }
+        Settled {
+            answer: Change::Done,
+            table: self.purged(),
+        }
     }
 
     // Whether the open report or priming with the id tells of the attribute.
@@ -557,6 +627,83 @@ impl Table {
         self
     }
 
+    fn not_woken(self, why: Refusal) -> Woken
+        ensures { λ r. ⌜ r ≡ notWoken self why ⌝ }
+    {
+        Woken {
+            answer: Waking::Refused(why),
+            table: self,
+        }
+    }
+
+    // Whether a removal cancels the open report: it is taken, and not cancelled yet.
+    fn cancels(self, choice: Choice) -> bool
+        requires { ⌜ self .opens ≤ 80 ⌝ }
+        ensures { λ r. ⌜ r ≡ cancelsIn self choice ⌝ }
+    {
+        if self.cancel == 0 {
+            return self.find_open(Test::Struck(choice)) < 80;
+        }
+        false
+    }
+
+    // The table without the stored ones that the choice takes: the last one fills each place and is looked at next.
+    fn swept(mut self, choice: Choice) -> Table
+        requires { ⌜ self .stored ≤ 80 ⌝ }
+        ensures { λ r. ⌜ r ≡ sweptOut (chosen choice) self ⌝ }
+    {
+        let mut n = self.stored;
+        let mut i: usize = 0;
+        while i < n {
+            let x = self.places[i];
+            if choice.takes(x) {
+                n -= 1;
+                let last = self.places[n];
+                self.places[i] = last;
+                self.places[n] = Subscription::BLANK;
+            } else {
+                i += 1;
+            }
+        }
+        self.stored = n;
+        self
+    }
+
+    // The table with nothing stored.
+    fn emptied(mut self) -> Table
+        requires { ⌜ self .stored ≤ 80 ⌝ }
+        ensures { λ r. ⌜ r ≡ emptied self ⌝ }
+    {
+        let n = self.stored;
+        let mut i: usize = 0;
+        while i < n {
+            self.places[i] = Subscription::BLANK;
+            i += 1;
+        }
+        self.stored = 0;
+        self
+    }
+
+    // The table without the entries that every stored one has seen.
+    fn purged(self) -> Table
+        requires { ⌜ self .stored ≤ 80 ⌝ }
+        ensures { λ r. ⌜ r ≡ purgedTable self ⌝ }
+    {
+        if 0 < self.opens {
+            return self;
+        }
+        let log = self.log;
+        if 0 < self.stored {
+            let first = self.places[0];
+            let after = log.purge_up_to(self.least_stored(Measure::Seen, first.seen));
+            let left = after.log;
+            return self.with_log(left);
+        }
+        let none = log.clear();
+        let left = none.log;
+        self.with_log(left)
+    }
+
     fn with_log(mut self, log: ChangedAttrs) -> Table
         ensures { λ r. ⌜ r ≡ withLog self log ⌝ }
     {
@@ -712,6 +859,8 @@ pub enum Test {
     // Reportable at the settings; the number is the log's greatest identity.
     Ready(Settings, u64),
     Chosen(Choice),
+    // The report, where the choice takes it.
+    Struck(Choice),
     Fabric(u8),
     // Of the fabric and the peer, with no failure since the last report.
     Served(u8, u64),
@@ -731,6 +880,7 @@ impl Test {
                 x.is_reportable(now, x.seen < newest, at.events, kind, at.all)
             }
             Test::Chosen(choice) => choice.takes(x),
+            Test::Struck(choice) => is_struck(choice, x),
             Test::Fabric(fabric) => x.fabric == fabric,
             Test::Served(fabric, peer) => is_served(x, fabric, peer),
         }
@@ -870,4 +1020,30 @@ fn is_cancelled(reporting: bool, reason: u8) -> bool
         return reason != 0;
     }
     false
+}
+
+fn is_struck(choice: Choice, x: Subscription) -> bool
+    ensures { λ r. ⌜ r ≡ struck choice x ⌝ }
+{
+    if x.reporting {
+        return choice.takes(x);
+    }
+    false
+}
+
+// No removal gives the reason 0, which says that nothing is cancelled, nor that of clearing.
+fn is_bad_reason(reason: u8) -> bool
+    ensures { λ r. ⌜ r ≡ badReason reason ⌝ }
+{
+    if reason == 0 {
+        return true;
+    }
+    CLEARED <= reason
+}
+
+// The cancel reason afterwards.
+fn reason_after(cancels: bool, reason: u8, before: u8) -> u8
+    ensures { λ r. ⌜ r ≡ cond cancels reason before ⌝ }
+{
+    if cancels { reason } else { before }
 }

@@ -31,8 +31,14 @@ takes-requires c κs = search needs
 enum-known-self-4 : tie.Need-enum-known-self-4
 enum-known-self-4 c = search needs
 
+is-struck-requires : tie.Need-is-struck-requires
+is-struck-requires c κs = search needs
+
 enum-known-self-5 : tie.Need-enum-known-self-5
 enum-known-self-5 c = search needs
+
+enum-known-self-6 : tie.Need-enum-known-self-6
+enum-known-self-6 c = search needs
 
 is-served-requires : tie.Need-is-served-requires
 is-served-requires c κs = search needs
@@ -55,11 +61,14 @@ returns-5 : tie.Need-returns-5
 returns-5 c = rw (c .before .before .self3 .given .1) (c .takes .ensures)
 
 returns-6 : tie.Need-returns-6
-unfolding ofFabric
-returns-6 c = rw (c .before .before .self4 .given .1)
+returns-6 c = rw (c .before .before .self4 .given .1) (c .is-struck .ensures)
 
 returns-7 : tie.Need-returns-7
-returns-7 c = rw (c .before .before .self5 .given .1) (c .is-served .ensures)
+unfolding ofFabric
+returns-7 c = rw (c .before .before .self5 .given .1)
+
+returns-8 : tie.Need-returns-8
+returns-8 c = rw (c .before .before .self6 .given .1) (c .is-served .ensures)
 
 pub passes-spec : {M : Type 1} → statement M
 passes-spec =
@@ -73,7 +82,9 @@ passes-spec =
     enum-known-self-3
     takes-requires
     enum-known-self-4
+    is-struck-requires
     enum-known-self-5
+    enum-known-self-6
     is-served-requires
     returns
     returns-2
@@ -81,4 +92,5 @@ passes-spec =
     returns-4
     returns-5
     returns-6
-    returns-7)
+    returns-7
+    returns-8)
