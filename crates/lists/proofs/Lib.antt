@@ -3,3 +3,4 @@ pub mod Searches
 pub mod Removals
 pub mod Arrays
 pub mod Orders
+pub mod Places

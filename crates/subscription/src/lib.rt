@@ -3,7 +3,7 @@
 // seen watermark.
 ghost use mathlib.Core.Path.{_≡_};
 ghost use Rattle.subscription.specs.When.{gateOf, allowedOf, dueOf, isDue, pending, along, reportable, nextOf, isOver};
-ghost use Rattle.subscription.specs.Life.{blank, priming, resumed, opened, givesUp, keeps, nextFails, storedWith, closed, failed};
+ghost use Rattle.subscription.specs.Life.{priming, resumed, opened, givesUp, keeps, nextFails, storedWith, closed, failed};
 ghost use Rattle.subscription.specs.Choices.{chosen};
 use time::Instant;
 use time::KeepAlive;

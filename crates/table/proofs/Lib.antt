@@ -2,3 +2,9 @@ pub mod Steps
 pub mod Keeping
 pub mod Refusing
 pub mod Sweeping
+pub mod Viewing
+pub mod Agreeing
+pub mod ReportAgrees
+pub mod AdmissionAgrees
+pub mod CompletionAgrees
+pub mod QuestionsAgree

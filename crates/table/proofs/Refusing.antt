@@ -30,7 +30,7 @@ use Rattle.rules.proofs.Clauses.{counted-is, add-objects, resume-objects, well-
 
 module _ (t : Table) where
   module _ (h : kept t ≡ true) where
-    state-kept : wellKept (view t) ≡ true
+    pub state-kept : wellKept (view t) ≡ true
     unfolding kept
     state-kept = and-both (leb (t .stored + t .opens) (t .capacity)) (wellKept (view t)) h .1
 
@@ -75,7 +75,7 @@ module _ (t : Table) where
 
 module _ (t : Table) (long : length (t .places) ≡ 80) (h : kept t ≡ true) where
   -- the machine counts what the table's counts say
-  counted-fields : counted (view t) ≡ t .stored + t .opens
+  pub counted-fields : counted (view t) ≡ t .stored + t .opens
   counted-fields =
       let b = kept-counts t h in
       counted-is (view t)

@@ -2,3 +2,4 @@ pub mod Views
 pub mod Tests
 pub mod Moves
 pub mod Calls
+pub mod Agreement

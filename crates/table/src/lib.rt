@@ -1,13 +1,13 @@
 // The table of subscriptions: document 01, "Table". Eighty places in one array: the stored ones in front, in their order, the open ones at
 // the far end, the newest first. Every call tests the whole state and refuses 7 exactly where it isn't well kept, then document 01's other
-// numbers in their order; a refusal hands back the table as it was. What a call does is said by the machine of crate rules.
+// numbers in their order; a refusal hands back the table as it was. The refusals are those of the machine of crate rules; what a call does
+// is said place by place in specs/.
 ghost use mathlib.Core.Path.{_≡_};
 ghost use mathlib.Core.Bool.{true, cond, not, _&&_, _||_};
-ghost use mathlib.Core.List.{map, _++_};
+ghost use mathlib.Core.List.{_++_};
 ghost use Prim.Native.Nat.{_+_, _-_, _^_, _≤_, _<_, min};
 ghost use lib.Dec.{leb, ltb, eqb};
-ghost use lib.ListN.{take, drop, length};
-ghost use Rattle.lists.specs.Search.{one, some, count, first, leastBy};
+ghost use Rattle.lists.specs.Search.{some, count, first, leastBy};
 ghost use Rattle.rules.specs.States.{capacityFits, isReport, hasId};
 ghost use Rattle.rules.specs.Machine.{firstOf, nextIdAfter, badReason};
 ghost use Rattle.subscription.specs.Choices.{chosen};

@@ -1,0 +1,84 @@
+-- The table's answers as the machine's: what a call of the table answers and leaves, as an outcome of the machine.
+-- Assumes nothing.
+use Rattle.table.specs.declared.Moment.{Moment}
+use Rattle.table.specs.declared.Loaded.{Loaded}
+use Rattle.table.specs.declared.Waking.{Waking}
+use Rattle.table.specs.declared.Woken.{Woken}
+use Rattle.changes.specs.declared.Told.{Told}
+use Rattle.table.specs.declared.Table.{Table}
+use Rattle.table.specs.declared.Completed.{Completed}
+use Rattle.table.specs.declared.Completion.{Completion}
+use Rattle.table.specs.declared.Admission.{Admission}
+use Rattle.table.specs.declared.Admitted.{Admitted}
+use Rattle.table.specs.declared.Hearing.{Hearing}
+use Rattle.table.specs.declared.TableNoted.{TableNoted}
+use Rattle.table.specs.declared.HandOut.{HandOut}
+use Rattle.table.specs.declared.Reported.{Reported}
+use Rattle.table.specs.declared.Moment.the-variants as moment
+use Rattle.table.specs.declared.Loaded.the-variants as loaded
+use Rattle.table.specs.declared.Waking.the-variants as waking
+use Rattle.changes.specs.declared.Told.the-variants as told
+use Rattle.table.specs.declared.Completion.the-variants as completion
+use Rattle.table.specs.declared.Admission.the-variants as admission
+use Rattle.table.specs.declared.Hearing.the-variants as hearing
+use Rattle.table.specs.declared.HandOut.the-variants as handOut
+use Rattle.rules.specs.Calls.{Answer}
+use Rattle.rules.specs.Machine.{Outcome, outcome}
+use Rattle.table.specs.Views.{view}
+use Rattle.rules.specs.Calls as call
+
+-- of a report
+abbrev pub handOutSays : HandOut → Answer
+handOutSays (handOut.To x) = call.handed (x .id) (x .rx)
+handOutSays handOut.Nothing = call.nothing
+handOutSays (handOut.Refused why) = call.refused why
+
+abbrev pub reportSays : Reported → Outcome
+reportSays r = outcome (handOutSays (r .answer)) (view (r .table))
+
+-- of an admission
+abbrev pub admissionSays : Admission → Answer
+admissionSays (admission.Id id) = call.number id
+admissionSays (admission.Refused why) = call.refused why
+
+abbrev pub admittedSays : Admitted → Outcome
+admittedSays r = outcome (admissionSays (r .answer)) (view (r .table))
+
+-- of a note: its value is the identity; that it wakes is no part of the machine's answer
+abbrev pub hearingSays : Hearing → Answer
+hearingSays (hearing.Entered x) = call.number (x .identity)
+hearingSays (hearing.Refused why) = call.refused why
+
+abbrev pub noteSays : TableNoted → Outcome
+noteSays r = outcome (hearingSays (r .answer)) (view (r .table))
+
+-- of a completion
+abbrev pub completionSays : Completion → Answer
+completionSays (completion.Ended x) = call.completed (x .kept) (x .failed)
+completionSays (completion.Refused why) = call.refused why
+
+abbrev pub completedSays : Completed → Outcome
+completedSays r = outcome (completionSays (r .answer)) (view (r .table))
+
+-- of a question, which leaves the table as it is
+abbrev pub toldSays : Table → Told → Outcome
+toldSays t (told.Is b) = outcome (call.yesNo b) (view t)
+toldSays t (told.Refused why) = outcome (call.refused why) (view t)
+
+-- of the next instant
+abbrev pub momentSays : Table → Moment → Outcome
+momentSays t (moment.At i) = outcome (call.instant i) (view t)
+momentSays t (moment.Refused why) = outcome (call.refused why) (view t)
+
+-- of the statistics
+abbrev pub loadSays : Table → Loaded → Outcome
+loadSays t (loaded.Is x) = outcome (call.stats (x .places) (x .fabric) (x .established)) (view t)
+loadSays t (loaded.Refused why) = outcome (call.refused why) (view t)
+
+-- of a removal and of clearing: does it wake
+abbrev pub wakingSays : Waking → Answer
+wakingSays (waking.Wakes b) = call.yesNo b
+wakingSays (waking.Refused why) = call.refused why
+
+abbrev pub wokenSays : Woken → Outcome
+wokenSays r = outcome (wakingSays (r .answer)) (view (r .table))
