@@ -6,7 +6,7 @@ use mathlib.Core.List.{map, List, [], _∷_, append-nil}
 use Prim.Native.Nat.{min, ℕ, zero, suc, _+_, _-_, _≤_, _<_}
 use native.Mathlib.Omega.{arith}
 use native.Mathlib.Numerals.{add-one}
-use native.Mathlib.Nat.{le-of-suc-le-suc, not-suc-le-zero}
+use native.Mathlib.Nat.{le-of-suc-le-suc, not-suc-le-zero, le-refl}
 use lib.ListN.{length-map, drop, length, take, getD, set}
 use lib.Seq.{take-all, slice, slice-cons, slice-empty, append-snoc, take-suc, take-set-le, length-take-le}
 use Rattle.lists.specs.Search.{leastBy, one, count, first}
@@ -118,3 +118,8 @@ module _ {A : Type 0} where
         let e : i ≡ n = omega arith in
         let z : n - n ≡ 0 = omega arith in
         rw (e, z, slice-empty n l) (append-nil (take n l))
+
+  -- what stands behind the held places is not looked at
+  pub scan-beyond : (p : A → Bool) (i n : ℕ) (l : List A) (e : A) → i ≤ n → scanned p i n (set l n e) ≡ scanned p i n l
+  unfolding scanned
+  scan-beyond p i n l e h = rw (take-set-le i l n e h, take-set-le n l n e (le-refl n))

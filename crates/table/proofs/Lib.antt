@@ -8,3 +8,5 @@ pub mod ReportAgrees
 pub mod AdmissionAgrees
 pub mod CompletionAgrees
 pub mod QuestionsAgree
+pub mod ClearingAgrees
+pub mod RemovalAgrees
