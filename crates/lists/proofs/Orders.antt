@@ -203,3 +203,17 @@ module _ {A : Type 0} where
       leb-min (f x) (leastBy f m xs) n
       ∙ ap (λ b. leb (f x) n || b) (least-most f m n xs)
       ∙ sym (or-assoc (leb (f x) n) (some (λ x. leb (f x) n) xs) (leb m n))
+
+  least-start : (f : A → ℕ) (m n : ℕ) (l : List A) → min m (leastBy f n l) ≡ leastBy f (min m n) l
+  unfolding leastBy
+  least-start f m n [] = refl
+  least-start f m n (x ∷ xs) =
+      let e : min m (min (f x) (leastBy f n xs)) ≡ min (f x) (min m (leastBy f n xs)) = omega arith in
+      e ∙ ap (min (f x)) (least-start f m n xs)
+
+  -- a first element that is at most m stands in for m
+  pub least-lower : (f : A → ℕ) (m : ℕ) (x : A) (xs : List A) → f x ≤ m → leastBy f m (x ∷ xs) ≡ leastBy f (f x) xs
+  unfolding leastBy
+  least-lower f m x xs h =
+      let e : min (f x) m ≡ f x = omega arith in
+      least-start f (f x) m xs ∙ ap (λ k. leastBy f k xs) e

@@ -14,16 +14,18 @@ use Rattle.subscription.specs.declared.Subscription.{Subscription}
 use Rattle.refusal.specs.declared.Refusal.{Refusal}
 use Rattle.time.specs.declared.Instant.{Instant}
 use Rattle.time.specs.declared.KeepAlive.{KeepAlive}
+use Rattle.time.specs.declared.KeepAlive.the-variants.{Icd}
+use Rattle.changes.specs.declared.ChangedAttrs.{ChangedAttrs}
 use Rattle.subscription.specs.declared.Choice.{Choice}
 use Rattle.subscription.specs.declared.Request.{Request}
 use Rattle.subscription.specs.declared.Settings.{Settings}
 use Rattle.lists.specs.Search.{leastBy, some, count, distinct}
 use Rattle.lists.specs.Removal.{sweep, takeOutNewest, takeOut}
 use Rattle.time.specs.Instants.{lastInstant, neverReported}
-use Rattle.subscription.specs.When.{nextOf, isDue, reportable}
+use Rattle.subscription.specs.When.{dueOf, nextOf, isDue, reportable}
 use Rattle.subscription.specs.Choices.{chosen}
-use Rattle.rules.specs.Machine.{nextInstantIn, statisticsIn, hasSubscriptionIn, cancels, removed, clearedIn, withCancel, openWith, stays, storedAfter, completedIn, attributeIn, sendIfEmptyIn, anyReportableIn, withNext, nextIdAfter, added, resumedTo, notedIn, takesState, refusal, outcome, withOnes, openedIn, nextUp, reported, act, ready, Objection, firstOf, objections, notOpen, badReason}
-use Rattle.changes.specs.Logs.{changedSince, watermarkOf, noted, anySince, kept}
+use Rattle.rules.specs.Machine.{leastSeen, purgedIn, keepAliveIn, nextInstantIn, statisticsIn, hasSubscriptionIn, cancels, removed, clearedIn, withCancel, openWith, stays, storedAfter, completedIn, attributeIn, sendIfEmptyIn, anyReportableIn, withNext, nextIdAfter, added, resumedTo, notedIn, takesState, refusal, outcome, withOnes, openedIn, nextUp, reported, act, ready, Objection, firstOf, objections, notOpen, badReason}
+use Rattle.changes.specs.Logs.{changedSince, watermarkOf, noted, purged, cleared, anySince, kept}
 use Rattle.subscription.specs.Life.{failed, priming, resumed}
 use Rattle.rules.specs.States.{hasId, State, idLive, isPriming, counted, isReport, reportOpen, capacityFits, fabricZero, wellKept}
 use Rattle.rules.specs.Calls.{Op}
@@ -157,6 +159,10 @@ refusal-kept op s h = first-passed NotWellKept (objections op s) (rw h (and-fals
 
 -- ---- what the other calls do, one by one
 
+-- the state with another log
+abbrev pub withLogIn : State → ChangedAttrs → State
+withLogIn s log = record { capacity = s .capacity; next = s .next; cancel = s .cancel; stored = s .stored; opens = s .opens; log = log }
+
 module _ (s : State) where
   pub act-add : (request : Request) (events : ℕ) (now : Instant)
       → act (call.add request events now) s
@@ -232,3 +238,25 @@ module _ (s : State) where
       ≡ outcome (call.yesNo false) (withCancel (withOnes s [] (s .opens)) (cond (some isReport (s .opens)) 255 (s .cancel)))
   unfolding act clearedIn reportOpen
   act-clear = refl
+
+  pub act-purge : act call.purge s
+      ≡ outcome call.done
+      (withLogIn s
+      (cond (ltb 0 (length (s .opens))) (s .log)
+      (cond (ltb 0 (length (s .stored))) (purged (s .log) (leastSeen (s .stored)) .log) (cleared (s .log) .log))))
+  unfolding act purgedIn
+  act-purge = refl
+
+  pub act-alive : act call.nextKeepAlive s ≡ outcome (call.keepAlive (keepAliveIn (s .stored))) s
+  unfolding act
+  act-alive = refl
+
+-- nobody's next keep-alive, and that of some
+pub alive-none : keepAliveIn [] ≡ none
+unfolding keepAliveIn
+alive-none = refl
+
+pub alive-some : (x : Subscription) (xs : List Subscription)
+    → keepAliveIn (x ∷ xs) ≡ just (record { ms = leastBy (λ y. dueOf y Icd .ms) (dueOf x Icd .ms) xs })
+unfolding keepAliveIn
+alive-some x xs = refl

@@ -43,6 +43,11 @@ reportable-next x now changed events kind =
     go false true false e f = sym (leb-max (allowedOf x .ms) (dueOf x kind .ms) (now .ms) ∙ rw (e, f))
     go false false d e f = sym (leb-max (allowedOf x .ms) (dueOf x kind .ms) (now .ms) ∙ rw e)
 
+-- Its due instant is an instant.
+pub due-most : (x : Subscription) (kind : KeepAlive) → dueOf x kind .ms ≤ lastInstant .ms
+unfolding dueOf
+due-most x kind = since-most (x .reported) (dueAfterSecs kind (x .longest))
+
 -- Where its retry is an instant, so is its next report.
 pub next-most : (x : Subscription) (changed : Bool) (events : ℕ) (kind : KeepAlive) → x .retry .ms ≤ lastInstant .ms
     → nextOf x changed events kind .ms ≤ lastInstant .ms

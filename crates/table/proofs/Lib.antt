@@ -10,3 +10,4 @@ pub mod CompletionAgrees
 pub mod QuestionsAgree
 pub mod ClearingAgrees
 pub mod RemovalAgrees
+pub mod LeastAgrees

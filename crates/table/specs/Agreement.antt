@@ -1,5 +1,10 @@
 -- The table's answers as the machine's: what a call of the table answers and leaves, as an outcome of the machine.
 -- Assumes nothing.
+use mathlib.Core.Option.{none}
+use mathlib.Core.Option.{some as just}
+use Rattle.changes.specs.declared.Change.{Change}
+use Rattle.table.specs.declared.Settled.{Settled}
+use Rattle.table.specs.declared.Alive.{Alive}
 use Rattle.table.specs.declared.Moment.{Moment}
 use Rattle.table.specs.declared.Loaded.{Loaded}
 use Rattle.table.specs.declared.Waking.{Waking}
@@ -14,6 +19,8 @@ use Rattle.table.specs.declared.Hearing.{Hearing}
 use Rattle.table.specs.declared.TableNoted.{TableNoted}
 use Rattle.table.specs.declared.HandOut.{HandOut}
 use Rattle.table.specs.declared.Reported.{Reported}
+use Rattle.changes.specs.declared.Change.the-variants as change
+use Rattle.table.specs.declared.Alive.the-variants as alive
 use Rattle.table.specs.declared.Moment.the-variants as moment
 use Rattle.table.specs.declared.Loaded.the-variants as loaded
 use Rattle.table.specs.declared.Waking.the-variants as waking
@@ -82,3 +89,17 @@ wakingSays (waking.Refused why) = call.refused why
 
 abbrev pub wokenSays : Woken → Outcome
 wokenSays r = outcome (wakingSays (r .answer)) (view (r .table))
+
+-- of a purge
+abbrev pub changeSays : Change → Answer
+changeSays change.Done = call.done
+changeSays (change.Refused why) = call.refused why
+
+abbrev pub settledSays : Settled → Outcome
+settledSays r = outcome (changeSays (r .answer)) (view (r .table))
+
+-- of the next keep-alive
+abbrev pub aliveSays : Table → Alive → Outcome
+aliveSays t (alive.At i) = outcome (call.keepAlive (just i)) (view t)
+aliveSays t alive.Never = outcome (call.keepAlive none) (view t)
+aliveSays t (alive.Refused why) = outcome (call.refused why) (view t)
