@@ -2,6 +2,7 @@ pub mod Single
 pub mod Marked
 pub mod Thirteen
 pub mod Clauses
+pub mod Acts
 pub mod Starving
 pub mod Computing
 pub mod Refusals

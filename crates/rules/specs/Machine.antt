@@ -13,6 +13,7 @@ use Rattle.refusal.specs.declared.Refusal.{Refusal}
 use Rattle.refusal.specs.declared.Refusal.the-variants.{Full, NotOpen, ReportOpen, IdLive, BadArgument, PrimingOpen, NotWellKept}
 use Rattle.time.specs.declared.Instant.{Instant}
 use Rattle.time.specs.declared.KeepAlive.{KeepAlive}
+use Rattle.changes.specs.declared.ChangedAttrs.{ChangedAttrs}
 use Rattle.time.specs.declared.KeepAlive.the-variants.{Icd}
 use Rattle.time.specs.Instants.{lastInstant, neverReported}
 use Rattle.changes.specs.Logs.{watermarkOf, noted, purged, cleared, anySince, changedSince}
@@ -126,6 +127,9 @@ abbrev pub withCancel : State → ℕ → State
 withCancel s cancel =
     record { capacity = s .capacity; next = s .next; cancel = cancel; stored = s .stored; opens = s .opens; log = s .log }
 
+abbrev pub withLog : State → ChangedAttrs → State
+withLog s log = record { capacity = s .capacity; next = s .next; cancel = s .cancel; stored = s .stored; opens = s .opens; log = log }
+
 -- "Add takes the next id, makes a priming, which opens with the present watermark, event number and now."
 unfoldable pub added : Request → ℕ → Instant → State → Outcome
 added request events now s =
@@ -140,9 +144,7 @@ resumedTo id request events s =
 
 -- a note: "takes the next identity"
 unfoldable pub notedIn : ℕ → ℕ → ℕ → State → Outcome
-notedIn endpoint cluster attr s =
-    outcome (call.number (s .log .next))
-    (record { capacity = s .capacity; next = s .next; cancel = s .cancel; stored = s .stored; opens = s .opens; log = noted (s .log) endpoint cluster attr .log })
+notedIn endpoint cluster attr s = outcome (call.number (s .log .next)) (withLog s (noted (s .log) endpoint cluster attr .log))
 
 -- "an entry above its seen watermark"
 abbrev pub changedFor : State → Subscription → Bool
@@ -215,16 +217,9 @@ leastSeen (x ∷ xs) = leastBy (λ y. y .seen) (x .seen) xs
 unfoldable pub purgedIn : State → Outcome
 purgedIn s =
     outcome call.done
-    (record {
-      capacity = s .capacity;
-      next = s .next;
-      cancel = s .cancel;
-      stored = s .stored;
-      opens = s .opens;
-      log =
-          cond (ltb 0 (length (s .opens))) (s .log)
-          (cond (ltb 0 (length (s .stored))) (purged (s .log) (leastSeen (s .stored)) .log) (cleared (s .log) .log));
-    })
+    (withLog s
+    (cond (ltb 0 (length (s .opens))) (s .log)
+    (cond (ltb 0 (length (s .stored))) (purged (s .log) (leastSeen (s .stored)) .log) (cleared (s .log) .log))))
 
 -- ---- questions
 

@@ -19,7 +19,7 @@ use Rattle.table.specs.Moves.{withNextId, storedLast, openedUp}
 use Rattle.table.specs.Calls.{notAdmitted, addTo, resumeIn, noteIn}
 use Rattle.table.specs.Agreement.{admittedSays, noteSays}
 use Rattle.rules.specs.Calls as call
-use Rattle.rules.proofs.Clauses.{act-add, act-resume, act-note}
+use Rattle.rules.proofs.Acts.{act-add, act-resume, act-note}
 use Rattle.table.proofs.Agreeing.{agreeing}
 use Rattle.table.proofs.Refusing.{past-kept, add-same, resume-same, room-left}
 use Rattle.table.proofs.Viewing.{stored-stored, stored-opens, opened-opens, opened-stored}

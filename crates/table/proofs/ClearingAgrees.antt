@@ -17,7 +17,7 @@ use Rattle.table.specs.Moves.{emptied}
 use Rattle.table.specs.Calls.{notWoken, clearIn}
 use Rattle.table.specs.Agreement.{wokenSays}
 use Rattle.rules.specs.Calls as call
-use Rattle.rules.proofs.Clauses.{act-clear}
+use Rattle.rules.proofs.Acts.{act-clear}
 use Rattle.table.proofs.Refusing.{kept-counts}
 use Rattle.table.proofs.Agreeing.{agreeing}
 

@@ -32,7 +32,8 @@ use Rattle.rules.specs.Calls as call
 use Rattle.lists.proofs.Bools.{split}
 use Rattle.lists.proofs.Searches.{first-some}
 use Rattle.lists.proofs.Places.{first-at}
-use Rattle.rules.proofs.Clauses.{complete-objects, first-holds, first-passed, act-complete, act-attribute, act-send}
+use Rattle.rules.proofs.Clauses.{complete-objects, first-holds, first-passed}
+use Rattle.rules.proofs.Acts.{act-complete, act-attribute, act-send}
 use Rattle.table.proofs.Refusing.{kept-counts, past-kept}
 use Rattle.table.proofs.Agreeing.{agreeing}
 use Rattle.table.proofs.Viewing.{stored-stored, stored-opens, closed-opens, closed-stored}

@@ -31,7 +31,7 @@ use Rattle.rules.specs.Calls as call
 use Rattle.lists.proofs.Bools.{split}
 use Rattle.lists.proofs.Orders.{least-lower}
 use Rattle.subscription.proofs.Laws.{due-most}
-use Rattle.rules.proofs.Clauses.{act-purge, act-alive, alive-none, alive-some}
+use Rattle.rules.proofs.Acts.{act-purge, act-alive, alive-none, alive-some}
 use Rattle.table.proofs.Refusing.{kept-counts}
 use Rattle.table.proofs.Agreeing.{agreeing}
 

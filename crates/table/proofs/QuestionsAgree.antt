@@ -24,7 +24,7 @@ use Rattle.table.specs.Calls.{asking, anyAt, nextAt, loadOf, hasAt}
 use Rattle.table.specs.Agreement.{toldSays, momentSays, loadSays}
 use Rattle.rules.specs.Calls as call
 use Rattle.changes.proofs.Promises.{newest-any}
-use Rattle.rules.proofs.Clauses.{act-any, act-next, act-statistics, act-has}
+use Rattle.rules.proofs.Acts.{act-any, act-next, act-statistics, act-has}
 use Rattle.table.proofs.Steps.{stored-there}
 use Rattle.table.proofs.Refusing.{kept-counts, counted-fields}
 use Rattle.table.proofs.Agreeing.{agreeing}

@@ -24,7 +24,7 @@ use Rattle.table.specs.Agreement.{wokenSays}
 use Rattle.rules.specs.Calls as call
 use Rattle.lists.proofs.Bools.{split}
 use Rattle.lists.proofs.Arrays.{scan-out, scan-kept, scan-start, scan-done, scan-beyond}
-use Rattle.rules.proofs.Clauses.{act-remove}
+use Rattle.rules.proofs.Acts.{act-remove}
 use Rattle.table.proofs.Refusing.{kept-counts}
 use Rattle.table.proofs.Agreeing.{agreeing}
 

@@ -28,7 +28,7 @@ use Rattle.rules.specs.Calls as call
 use Rattle.lists.proofs.Bools.{split}
 use Rattle.lists.proofs.Places.{first-at}
 use Rattle.changes.proofs.Promises.{newest-any}
-use Rattle.rules.proofs.Clauses.{ready-is, act-report, reported-one, reported-none}
+use Rattle.rules.proofs.Acts.{ready-is, act-report, reported-one, reported-none}
 use Rattle.table.proofs.Steps.{stored-there}
 use Rattle.table.proofs.Agreeing.{agreeing}
 use Rattle.table.proofs.Refusing.{kept-counts}
