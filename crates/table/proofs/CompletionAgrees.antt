@@ -59,7 +59,7 @@ module _ (t : Table) (long : length (t .places) ≡ 80) (h : kept t ≡ true) wh
       (λ _. ap (λ x. outcome (call.yesNo (isDue x (x .opened) kind)) (view t)) (same-open id) ∙ sym (act-send (view t) id kind))
 
   -- where a completion is not refused, some open one has the id
-  open-found : (id o : ℕ) → refusalAt (call.complete id o) t ≡ none → first (hasId id) (opensOf t) < t .opens
+  pub open-found : (id o : ℕ) → refusalAt (call.complete id o) t ≡ none → first (hasId id) (opensOf t) < t .opens
   open-found id o e =
       let b = kept-counts t h in
       let size : length (opensOf t) ≡ t .opens = length-drop (80 - t .opens) (t .places) ∙ (omega arith) in
@@ -73,11 +73,11 @@ module _ (t : Table) (long : length (t .places) ≡ 80) (h : kept t ≡ true) wh
       omega arith))
 
   module _ (id : ℕ) (found : first (hasId id) (opensOf t) < t .opens) where
-    at-most : openAt t id < 80
+    pub at-most : openAt t id < 80
     unfolding openAt
     at-most = let b = kept-counts t h in omega arith
 
-    at-least : 80 - t .opens ≤ openAt t id
+    pub at-least : 80 - t .opens ≤ openAt t id
     unfolding openAt
     at-least = omega arith
 
@@ -95,7 +95,7 @@ module _ (t : Table) (long : length (t .places) ≡ 80) (h : kept t ≡ true) wh
         let m = set (t .places) (openAt t id) (getD (t .places) n blank) in
         length-set m n blank ∙ length-set (t .places) (openAt t id) (getD (t .places) n blank) ∙ long
 
-    closed-room : closedAt t (openAt t id) .stored + closedAt t (openAt t id) .opens < 80
+    pub closed-room : closedAt t (openAt t id) .stored + closedAt t (openAt t id) .opens < 80
     unfolding closedAt
     closed-room = let b = kept-counts t h in omega arith
 

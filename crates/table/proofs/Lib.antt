@@ -11,3 +11,6 @@ pub mod QuestionsAgree
 pub mod ClearingAgrees
 pub mod RemovalAgrees
 pub mod LeastAgrees
+pub mod Tidying
+pub mod TidyCalls
+pub mod TidyViews

@@ -2,4 +2,5 @@ pub mod Views
 pub mod Tests
 pub mod Moves
 pub mod Calls
+pub mod Tidiness
 pub mod Agreement
