@@ -1,6 +1,6 @@
 -- What each call does where it is not refused, as equations for the floors above, which never open its definition.
 -- Assumes nothing.
-use mathlib.Core.Bool.{cond, true, false, _&&_, _||_}
+use mathlib.Core.Bool.{cond, true, false, not, _&&_, _||_}
 use mathlib.Core.Path.{_≡_, refl}
 use mathlib.Core.List.{List, [], _∷_, _++_}
 use mathlib.Core.Option.{none}
@@ -8,6 +8,7 @@ use mathlib.Core.Option.{some as just}
 use Prim.Native.Nat.{_-_, ℕ, _+_}
 use lib.Dec.{eqb, ltb}
 use lib.ListN.{length}
+use Rattle.refusal.specs.declared.Refusal.the-variants.{BadArgument}
 use Rattle.subscription.specs.declared.Subscription.{Subscription}
 use Rattle.time.specs.declared.Instant.{Instant}
 use Rattle.time.specs.declared.KeepAlive.{KeepAlive}
@@ -20,10 +21,10 @@ use Rattle.lists.specs.Removal.{sweep, takeOutNewest, takeOut}
 use Rattle.time.specs.Instants.{lastInstant, neverReported}
 use Rattle.subscription.specs.When.{dueOf, nextOf, isDue, reportable}
 use Rattle.subscription.specs.Choices.{chosen}
-use Rattle.rules.specs.Machine.{withLog, leastSeen, purgedIn, keepAliveIn, nextInstantIn, statisticsIn, hasSubscriptionIn, cancels, removed, clearedIn, withCancel, openWith, stays, storedAfter, completedIn, attributeIn, sendIfEmptyIn, anyReportableIn, withNext, nextIdAfter, added, resumedTo, notedIn, outcome, withOnes, openedIn, nextUp, reported, act, ready}
+use Rattle.rules.specs.Machine.{withLog, leastSeen, purgedIn, keepAliveIn, nextInstantIn, statisticsIn, hasSubscriptionIn, cancels, removed, clearedIn, withCancel, openWith, stays, storedAfter, completedIn, attributeIn, sendIfEmptyIn, anyReportableIn, withNext, nextIdAfter, added, resumedTo, notedIn, outcome, withOnes, openedIn, nextUp, reported, act, ready, objections, firstOf, refusal, step, Outcome, Turn, turned, roundFrom, roundIn}
 use Rattle.changes.specs.Logs.{changedSince, watermarkOf, noted, purged, cleared, anySince}
 use Rattle.subscription.specs.Life.{failed, priming, resumed}
-use Rattle.rules.specs.States.{hasId, State, counted, isReport, reportOpen}
+use Rattle.rules.specs.States.{hasId, State, fresh, counted, capacityFits, isReport, reportOpen}
 use Rattle.rules.specs.Calls as call
 
 -- ---- what a report hands out, and what it leaves
@@ -67,7 +68,7 @@ module _ (s : State) where
 
   pub act-note : (e c a : ℕ)
       → act (call.note e c a) s
-      ≡ outcome (call.number (s .log .next)) (withLog s (noted (s .log) e c a .log))
+      ≡ outcome (call.heard (s .log .next) true) (withLog s (noted (s .log) e c a .log))
   unfolding act notedIn
   act-note e c a = refl
 
@@ -146,3 +147,36 @@ pub alive-some : (x : Subscription) (xs : List Subscription)
     → keepAliveIn (x ∷ xs) ≡ just (record { ms = leastBy (λ y. dueOf y Icd .ms) (dueOf x Icd .ms) xs })
 unfolding keepAliveIn
 alive-some x xs = refl
+
+-- a new table takes no state: it is made, or refused for its capacity alone
+pub new-made : (capacity : ℕ) (s : State) → capacityFits capacity ≡ true → step (call.new capacity) s ≡ outcome (call.number capacity) (fresh capacity)
+unfolding step refusal objections firstOf act
+new-made capacity s h = rw (h, firstOf, step)
+
+pub new-refused : (capacity : ℕ) (s : State) → capacityFits capacity ≡ false → step (call.new capacity) s ≡ outcome (call.refused BadArgument) s
+unfolding step refusal objections firstOf act
+new-refused capacity s h = rw (h, firstOf, step)
+
+-- a round goes on while somebody is reportable and an outcome is left
+pub round-over : (at : Settings) (t : Turn) → roundFrom at [] t ≡ t
+unfolding roundFrom
+round-over at t = refl
+
+module _ (at : Settings) (o : ℕ) (os : List ℕ) (t : Turn) where
+  pub round-goes-on : some (ready at (t .state)) (t .state .stored) ≡ true → roundFrom at (o ∷ os) t ≡ roundFrom at os (turned at o t)
+  unfolding roundFrom
+  round-goes-on h = rw (h, roundFrom)
+
+  pub round-falls-silent : some (ready at (t .state)) (t .state .stored) ≡ false → roundFrom at (o ∷ os) t ≡ t
+  unfolding roundFrom
+  round-falls-silent h = rw (h, roundFrom)
+
+-- what a round answers and leaves where it stands in the end
+abbrev pub roundEnds : Settings → Turn → Outcome
+roundEnds at t =
+    outcome (call.rounded (t .handOuts) (not (some (ready at (t .state)) (t .state .stored))) (t .ids)) (t .state)
+
+pub act-round : (s : State) (at : Settings) (os ids : List ℕ)
+    → act (call.round at os ids) s ≡ roundEnds at (roundFrom at os (record { handOuts = 0; ids = ids; state = s }))
+unfolding act roundIn
+act-round s at os ids = refl

@@ -17,7 +17,7 @@ use Rattle.subscription.specs.declared.Choice.{Choice}
 use Rattle.subscription.specs.declared.Request.{Request}
 use Rattle.subscription.specs.declared.Settings.{Settings}
 use Rattle.lists.specs.Search.{some, count, distinct}
-use Rattle.rules.specs.Machine.{takesState, refusal, Objection, firstOf, objections, notOpen, badReason}
+use Rattle.rules.specs.Machine.{takesState, refusal, Objection, firstOf, objections, notOpen, badReason, badOutcome}
 use Rattle.changes.specs.Logs.{kept}
 use Rattle.rules.specs.States.{State, idLive, isPriming, counted, isReport, reportOpen, capacityFits, fabricZero, wellKept}
 use Rattle.rules.specs.Calls.{Op}
@@ -121,6 +121,11 @@ module _ (s : State) where
   pub has-objects : (fabric peer : ℕ) → objections (call.hasSubscription fabric peer) s ≡ []
   unfolding objections
   has-objects fabric peer = refl
+
+  pub round-objects : (at : Settings) (os ids : List ℕ) → objections (call.round at os ids) s
+      ≡ ((some badOutcome os || not (eqb (length os) (length ids)), BadArgument) ∷ (reportOpen s, ReportOpen) ∷ [])
+  unfolding objections
+  round-objects at os ids = refl
 
 -- of a well-kept state the refusal is the first objection
 pub refusal-kept : (op : Op) (s : State) → wellKept s ≡ true → refusal op s ≡ firstOf (objections op s)

@@ -40,7 +40,7 @@ two = after (kept 2) one
 
 -- "Add takes the next id, makes a priming, which opens with the present watermark, event number and now."
 abbrev adding : Diary
-adding = (call.note 3 6 0, call.number 1) ∷ (call.add request 9 (instant 1000), call.number 1) ∷ []
+adding = (call.note 3 6 0, call.heard 1 true) ∷ (call.add request 9 (instant 1000), call.number 1) ∷ []
 
 pub added-so : GoesBy adding (fresh 80) × (after adding (fresh 80) .opens ≡ (priming request 1 1 9 (instant 1000) ∷ []))
 unfolding allRules
@@ -49,7 +49,7 @@ added-so = (refl, refl)
 -- "Resume .. stores at the end as never reported, with the given id and event number, the present watermark"; "Next id moves as at add."
 abbrev resuming : Diary
 resuming =
-    (call.note 3 6 0, call.number 1)
+    (call.note 3 6 0, call.heard 1 true)
     ∷ (call.resume 8 request 9, call.number 8)
     ∷ (call.resume 4 request 9, call.number 4)
     ∷ (call.add request 0 (instant 1000), call.number 9)
@@ -65,9 +65,9 @@ resumed-so = (refl, refl)
 -- "0 sent: opening values stored": a note made meanwhile is not lost
 abbrev noteMeanwhile : Diary
 noteMeanwhile =
-    (call.note 3 6 0, call.number 1)
+    (call.note 3 6 0, call.heard 1 true)
     ∷ (call.report (at 2000), call.handed 1 5)
-    ∷ (call.note 3 6 1, call.number 2)
+    ∷ (call.note 3 6 1, call.heard 2 true)
     ∷ (call.complete 1 0, call.completed true false)
     ∷ (call.report (at 4000), call.handed 1 5)
     ∷ (call.attribute 1 3 6 1, call.yesNo true)
@@ -157,13 +157,13 @@ cleared-so = (refl, refl, refl)
 -- "Purge does nothing while anything is open. Else it purges up to the least seen watermark, or empties the log if none is stored."
 abbrev purgeOpen : Diary
 purgeOpen =
-    (call.note 3 6 0, call.number 1)
+    (call.note 3 6 0, call.heard 1 true)
     ∷ (call.report (at 2000), call.handed 1 5)
     ∷ (call.purge, call.done)
     ∷ []
 
 abbrev purgeShut : Diary
-purgeShut = (call.complete 1 0, call.completed true false) ∷ (call.note 3 6 1, call.number 2) ∷ (call.purge, call.done) ∷ []
+purgeShut = (call.complete 1 0, call.completed true false) ∷ (call.note 3 6 1, call.heard 2 true) ∷ (call.purge, call.done) ∷ []
 
 abbrev purgeEmpty : Diary
 purgeEmpty = (call.remove All 9, call.yesNo true) ∷ (call.purge, call.done) ∷ []

@@ -11,7 +11,7 @@ use Rattle.rules.specs.States.{State, fresh, capacityFits, wellKept}
 use Rattle.rules.specs.Calls.{Op}
 use Rattle.rules.specs.Histories.{refusedBy}
 use Rattle.rules.specs.Machine.{takesState, step, run, answers}
-use Rattle.rules.proofs.Refusals.{seven-exactly, same-number}
+use Rattle.rules.proofs.Refusals.{seven-exactly, same-refusal}
 use Rattle.rules.proofs.Sound.{kept-sound, sound-kept}
 use Rattle.rules.proofs.Steps.{fresh-sound, step-sound}
 
@@ -35,7 +35,7 @@ unfolding answers
 run-never-seven [] s h = some-nil (refusedBy 7)
 run-never-seven (op ∷ ops) s h =
     some-cons (refusedBy 7) (step op s .answer) (answers ops (step op s .state))
-    ∙ rw (same-number op s 7, seven-exactly op s, h, and-false (takesState op))
+    ∙ rw (same-refusal op s, seven-exactly op s, h, and-false (takesState op))
     (run-never-seven ops (step op s .state) (step-well-kept op s h))
 
 -- Over every history from a fresh table the state is well kept.

@@ -15,7 +15,8 @@ use Rattle.lists.proofs.Bools.{split, or-neither}
 use Rattle.rules.specs.States.{State, wellKept}
 use Rattle.rules.specs.Calls as call
 use Rattle.rules.specs.Calls.{Op}
-use Rattle.rules.specs.Histories.{numbered, refusedBy}
+use Rattle.rules.specs.Numbers.{refusalOf}
+use Rattle.rules.specs.Histories.{numbered}
 use Rattle.rules.specs.Machine.{Objection, firstOf, objections, takesState, refusal, added, resumedTo, notedIn, ready, reported, completedIn, removed, clearedIn, purgedIn, statisticsIn, roundIn, act}
 
 -- where nothing is refused, nothing was objected to
@@ -62,22 +63,22 @@ other-numbers (call.hasSubscription fabric peer) s = refl
 other-numbers (call.round at outcomes ids) s = refl
 
 -- a call that acts does not answer by a refusal
-pub act-unrefused : (op : Op) (s : State) (n : ℕ) → refusedBy n (act op s .answer) ≡ false
+pub act-unrefused : (op : Op) (s : State) → refusalOf (act op s .answer) ≡ none
 unfolding act added resumedTo notedIn reported completedIn removed clearedIn purgedIn statisticsIn roundIn
-act-unrefused (call.new capacity) s n = refl
-act-unrefused (call.add request events now) s n = refl
-act-unrefused (call.resume id request events) s n = refl
-act-unrefused (call.note endpoint cluster attr) s n = refl
-act-unrefused (call.report at) s n = split (some (ready at s) (s .stored)) (λ t. rw (t, reported)) (λ t. rw (t, reported))
-act-unrefused (call.complete id o) s n = refl
-act-unrefused (call.remove choice reason) s n = refl
-act-unrefused call.clear s n = refl
-act-unrefused call.purge s n = refl
-act-unrefused (call.attribute id endpoint cluster attr) s n = refl
-act-unrefused (call.sendIfEmpty id kind) s n = refl
-act-unrefused (call.nextInstant events kind) s n = refl
-act-unrefused (call.anyReportable now events kind) s n = refl
-act-unrefused call.nextKeepAlive s n = refl
-act-unrefused (call.statistics fabric) s n = refl
-act-unrefused (call.hasSubscription fabric peer) s n = refl
-act-unrefused (call.round at outcomes ids) s n = refl
+act-unrefused (call.new capacity) s = refl
+act-unrefused (call.add request events now) s = refl
+act-unrefused (call.resume id request events) s = refl
+act-unrefused (call.note endpoint cluster attr) s = refl
+act-unrefused (call.report at) s = split (some (ready at s) (s .stored)) (λ t. rw (t, reported)) (λ t. rw (t, reported))
+act-unrefused (call.complete id o) s = refl
+act-unrefused (call.remove choice reason) s = refl
+act-unrefused call.clear s = refl
+act-unrefused call.purge s = refl
+act-unrefused (call.attribute id endpoint cluster attr) s = refl
+act-unrefused (call.sendIfEmpty id kind) s = refl
+act-unrefused (call.nextInstant events kind) s = refl
+act-unrefused (call.anyReportable now events kind) s = refl
+act-unrefused call.nextKeepAlive s = refl
+act-unrefused (call.statistics fabric) s = refl
+act-unrefused (call.hasSubscription fabric peer) s = refl
+act-unrefused (call.round at outcomes ids) s = refl

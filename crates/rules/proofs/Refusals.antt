@@ -11,7 +11,8 @@ use Rattle.lists.proofs.Bools.{split}
 use Rattle.rules.specs.States.{State, wellKept}
 use Rattle.rules.specs.Calls as call
 use Rattle.rules.specs.Calls.{Op}
-use Rattle.rules.specs.Histories.{numbered, refusedBy}
+use Rattle.rules.specs.Numbers.{refusalOf}
+use Rattle.rules.specs.Histories.{numbered}
 use Rattle.rules.specs.Machine.{Outcome, firstOf, objections, takesState, refusal, outcome, act, stepBy, step}
 use Rattle.rules.proofs.Objections.{no-seven, other-numbers, act-unrefused}
 
@@ -43,11 +44,11 @@ seven-exactly op s =
     (λ t. rw (t, firstOf))
     (λ t. rw (t, firstOf) (no-seven (objections op s) (other-numbers op s)))
 
--- A call is answered by its refusal's number, and by none where it acts.
-pub same-number : (op : Op) (s : State) (n : ℕ) → refusedBy n (step op s .answer) ≡ numbered n (refusal op s)
+-- A call is answered by its refusal, and by none where it acts.
+pub same-refusal : (op : Op) (s : State) → refusalOf (step op s .answer) ≡ refusal op s
 unfolding step
-same-number op s n = go (refusal op s)
+same-refusal op s = go (refusal op s)
   where
-    go : (r : Option Refusal) → refusedBy n (stepBy r op s .answer) ≡ numbered n r
-    go none = act-unrefused op s n
+    go : (r : Option Refusal) → refusalOf (stepBy r op s .answer) ≡ r
+    go none = act-unrefused op s
     go (just why) = refl

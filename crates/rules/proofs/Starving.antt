@@ -31,23 +31,23 @@ three =
     ∷ (call.complete 2 0, call.completed true false)
     ∷ (call.add request 0 (instant 1000), call.number 3)
     ∷ (call.complete 3 0, call.completed true false)
-    ∷ (call.note 3 6 0, call.number 1)
+    ∷ (call.note 3 6 0, call.heard 1 true)
     ∷ []
 
 abbrev fourReports : Diary
 fourReports =
     (report 2000, call.handed 1 0)
     ∷ (call.complete 1 0, call.completed true false)
-    ∷ (call.note 3 6 0, call.number 2)
+    ∷ (call.note 3 6 0, call.heard 2 true)
     ∷ (report 3000, call.handed 3 0)
     ∷ (call.complete 3 0, call.completed true false)
-    ∷ (call.note 3 6 0, call.number 3)
+    ∷ (call.note 3 6 0, call.heard 3 true)
     ∷ (report 4000, call.handed 1 0)
     ∷ (call.complete 1 0, call.completed true false)
-    ∷ (call.note 3 6 0, call.number 4)
+    ∷ (call.note 3 6 0, call.heard 4 true)
     ∷ (report 5000, call.handed 3 0)
     ∷ (call.complete 3 0, call.completed true false)
-    ∷ (call.note 3 6 0, call.number 5)
+    ∷ (call.note 3 6 0, call.heard 5 true)
     ∷ []
 
 pub three-stored : GoesBy three (fresh 80)

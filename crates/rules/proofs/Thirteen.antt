@@ -26,7 +26,7 @@ thirteenLines =
     ∷ (call.add req 0 (instant 1000), call.number 1)
     ∷ (call.complete 1 0, call.completed true false)
     ∷ (call.nextInstant 0 Default, call.instant (instant 31000))
-    ∷ (call.note 3 6 0, call.number 1)
+    ∷ (call.note 3 6 0, call.heard 1 true)
     ∷ (call.nextInstant 0 Default, call.instant (instant 2000))
     ∷ (rep 1999, call.nothing)
     ∷ (rep 2000, call.handed 1 0)

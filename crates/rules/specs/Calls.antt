@@ -37,14 +37,16 @@ pub data Answer : Type 0 where
   refused : Refusal → Answer
   -- done, and nothing to tell
   done : Answer
-  -- a number: an id, an identity
+  -- a number: a capacity, an id
   number : ℕ → Answer
+  -- note: its identity, and whether it wakes
+  heard : (identity : ℕ) (wakes : Bool) → Answer
   -- report: "answers Nothing", or "the id and the request number"
   nothing : Answer
   handed : (id rx : ℕ) → Answer
   -- complete: kept, and "the failed flag"
   completed : (stays failed : Bool) → Answer
-  -- remove and clear: does it wake ("Notes always wake."); and a question: yes or no
+  -- remove and clear: does it wake; and a question: yes or no
   yesNo : Bool → Answer
   instant : Instant → Answer
   keepAlive : Option Instant → Answer

@@ -13,8 +13,8 @@ use Rattle.lists.specs.Search.{some}
 use Rattle.time.specs.Instants.{lastInstant}
 use Rattle.subscription.specs.declared.Subscription.{Subscription}
 use Rattle.rules.specs.States.{State}
-use Rattle.rules.specs.Calls as call
 use Rattle.rules.specs.Calls.{Op, Answer}
+use Rattle.rules.specs.Numbers.{refusalOf}
 use Rattle.rules.specs.Machine.{takesState, run, answers}
 
 -- the call is refused with this number
@@ -24,17 +24,7 @@ numbered n (just why) = eqb (numberOf why) n
 
 -- the answer is the refusal with this number
 abbrev pub refusedBy : ℕ → Answer → Bool
-refusedBy n (call.refused why) = eqb (numberOf why) n
-refusedBy n call.done = false
-refusedBy n (call.number k) = false
-refusedBy n call.nothing = false
-refusedBy n (call.handed id rx) = false
-refusedBy n (call.completed stays failed) = false
-refusedBy n (call.yesNo b) = false
-refusedBy n (call.instant i) = false
-refusedBy n (call.keepAlive i) = false
-refusedBy n (call.stats places ofFabric established) = false
-refusedBy n (call.rounded handOuts silent ids) = false
+refusedBy n a = numbered n (refusalOf a)
 
 -- "An instant is a u64 of milliseconds.": no stored one waits for a retry past the last of them
 abbrev pub lateRetry : Subscription → Bool

@@ -142,9 +142,9 @@ resumedTo id request events s =
     outcome (call.number id)
     (withNext (withOnes s (s .stored ++ (resumed request id (watermarkOf (s .log)) events ∷ [])) (s .opens)) (nextIdAfter (s .next) id))
 
--- a note: "takes the next identity"
+-- a note: "takes the next identity"; "Notes always wake."
 unfoldable pub notedIn : ℕ → ℕ → ℕ → State → Outcome
-notedIn endpoint cluster attr s = outcome (call.number (s .log .next)) (withLog s (noted (s .log) endpoint cluster attr .log))
+notedIn endpoint cluster attr s = outcome (call.heard (s .log .next) true) (withLog s (noted (s .log) endpoint cluster attr .log))
 
 -- "an entry above its seen watermark"
 abbrev pub changedFor : State → Subscription → Bool

@@ -23,6 +23,7 @@ abbrev pub handedId : Answer → List ℕ
 handedId (call.refused why) = []
 handedId call.done = []
 handedId (call.number k) = []
+handedId (call.heard identity wakes) = []
 handedId call.nothing = []
 handedId (call.handed id rx) = id ∷ []
 handedId (call.completed stays failed) = []

@@ -12,5 +12,5 @@ pub mod ClearingAgrees
 pub mod RemovalAgrees
 pub mod LeastAgrees
 pub mod Tidying
-pub mod TidyCalls
+pub mod Lasting
 pub mod TidyViews

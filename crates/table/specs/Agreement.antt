@@ -51,9 +51,9 @@ admissionSays (admission.Refused why) = call.refused why
 abbrev pub admittedSays : Admitted → Outcome
 admittedSays r = outcome (admissionSays (r .answer)) (view (r .table))
 
--- of a note: its value is the identity; that it wakes is no part of the machine's answer
+-- of a note
 abbrev pub hearingSays : Hearing → Answer
-hearingSays (hearing.Entered x) = call.number (x .identity)
+hearingSays (hearing.Entered x) = call.heard (x .identity) (x .wakes)
 hearingSays (hearing.Refused why) = call.refused why
 
 abbrev pub noteSays : TableNoted → Outcome
