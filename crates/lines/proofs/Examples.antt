@@ -1,24 +1,20 @@
--- Lines and cuts worked out by the definitions alone, at the edges of each rule. Nothing is proved from them.
+-- Lines worked out by the definitions alone, at the edges of each rule. Nothing is proved from them.
 -- Assumes nothing.
 use mathlib.Core.Path.{_≡_, refl}
 use mathlib.Core.Bool.{true}
 use mathlib.Core.List.{[], _∷_, map}
 use Prim.Native.Nat.{ℕ}
-use lib.ListN.{replicate}
-use Rattle.lines.specs.Bytes.{CR, LF, comma, a, d, e, k, n, o, w}
-use Rattle.lines.specs.Fields.{digits, decimal, numberFrom, front, fieldOf}
-use Rattle.lines.specs.Lines.{begins, firstOf, numbersFrom, numbersOf, lineOf}
-use Rattle.lines.specs.Cuts.{cut, holdsLone, whole, bad, judge, textsOf}
-use Rattle.lines.specs.declared.line.Line.the-variants.{New, Add, Done, Wake, Bad}
+use Rattle.fields.specs.Bytes.{comma}
+use Rattle.fields.specs.Fields.{digits, decimal, numberFrom, front, fieldOf}
+use Rattle.fields.specs.Rows.{numbersFrom, numbersOf}
+use Rattle.lines.specs.Letters.{a, d, e, k, n, o, w}
+use Rattle.lines.specs.Lines.{begins, firstOf, lineOf}
+use Rattle.lines.specs.declared.Line.the-variants.{New, Add, Done, Wake, Bad}
 
--- every rule that a line is read by, and every one that an input is cut by
+-- every rule that a line is read by
 lineRules : ℕ
 unfolding digits decimal numberFrom front fieldOf begins firstOf numbersFrom numbersOf lineOf
 lineRules = 0
-
-cutRules : ℕ
-unfolding cut holdsLone judge textsOf
-cutRules = 0
 
 -- new,2   new,0   new,255   new,256   new,02   new,
 lines-new :
@@ -60,31 +56,3 @@ lines-wide :
     ≡ Bad ∷ Bad ∷ Wake 0 true ∷ Bad ∷ Bad ∷ []
 unfolding lineRules
 lines-wide = refl
-
--- with at most 3 bytes to a line and 2 lines: an empty input, a line, one without its CRLF, an empty line, CR CR LF, a bare LF and a bare CR
--- at the end, 3 bytes, 4 bytes, 3 lines
-inputs-cut :
-    map (textsOf 3 2) (
-    ([]) ∷
-    (120 ∷ CR ∷ LF ∷ []) ∷
-    (120 ∷ []) ∷
-    (CR ∷ LF ∷ []) ∷
-    (120 ∷ CR ∷ CR ∷ LF ∷ []) ∷
-    (120 ∷ LF ∷ []) ∷
-    (120 ∷ CR ∷ []) ∷
-    (120 ∷ 120 ∷ 120 ∷ CR ∷ LF ∷ []) ∷
-    (120 ∷ 120 ∷ 120 ∷ 120 ∷ CR ∷ LF ∷ []) ∷
-    (120 ∷ CR ∷ LF ∷ 120 ∷ CR ∷ LF ∷ 120 ∷ []) ∷
-    [])
-    ≡ [] ∷ (whole (120 ∷ []) ∷ []) ∷ (whole (120 ∷ []) ∷ []) ∷ (bad ∷ []) ∷ (bad ∷ []) ∷ (bad ∷ []) ∷ (bad ∷ []) ∷ (whole (120 ∷ 120 ∷ 120 ∷ []) ∷ []) ∷ (bad ∷ []) ∷ (whole (120 ∷ []) ∷ whole (120 ∷ []) ∷ []) ∷ []
-unfolding cutRules
-inputs-cut = refl
-
--- 96 bytes and 97
-longest : judge 96 (replicate 96 120) ≡ whole (replicate 96 120)
-unfolding cutRules
-longest = refl
-
-too-long : judge 96 (replicate 97 120) ≡ bad
-unfolding cutRules
-too-long = refl

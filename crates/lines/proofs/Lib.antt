@@ -1,11 +1,3 @@
-pub mod Parts
-pub mod Fields
 pub mod Lines
-pub mod Answers
-pub mod ReadBack
-pub mod Steps
-pub mod Cuts
-pub mod Found
-pub mod Scans
-pub mod Chunks
+pub mod Inputs
 pub mod Examples

@@ -1,7 +1,3 @@
-pub mod Bytes
-pub mod Fields
+pub mod Letters
 pub mod Lines
-pub mod Answers
-pub mod Cuts
-pub mod Steps
-pub mod Inner
+pub mod Inputs

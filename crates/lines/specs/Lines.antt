@@ -1,19 +1,18 @@
 -- A whole line without its CRLF, as document 01 has it, "Trace lines": a word, a comma, and the fields of that word.
--- Where a line begins and ends is said in Cuts. Assumes nothing.
+-- Where a line begins and ends is not said here. Assumes nothing.
 use mathlib.Core.Bool.{Bool, true, false, cond, _&&_}
 use mathlib.Core.List.{List, [], _∷_}
-use Prim.Native.Nat.{ℕ, _+_}
-use lib.Dec.{eqb, leb}
-use lib.ListN.{length, drop, getD, set, replicate}
-use Rattle.lines.specs.Bytes.{comma, a, d, e, k, n, o, p, r, t, w}
-use Rattle.lines.specs.Fields.{fieldOf}
-use Rattle.lines.specs.declared.field.Field.{Field}
-use Rattle.lines.specs.declared.line.Kind.{Kind}
-use Rattle.lines.specs.declared.line.Numbers.{Numbers}
-use Rattle.lines.specs.declared.line.Line.{Line}
-use Rattle.lines.specs.declared.line.Line.the-variants.{New, Add, Note, Report, Done, Attr, Wake, Bad}
-use Rattle.lines.specs.declared.field.Field.the-variants as field
-use Rattle.lines.specs.declared.line.Kind.the-variants as kind
+use Prim.Native.Nat.{ℕ}
+use lib.Dec.{eqb}
+use lib.ListN.{length, drop, getD}
+use Rattle.fields.specs.Bytes.{comma}
+use Rattle.fields.specs.Rows.{flag, bits8, bits16, bits32, bits64, numbersOf}
+use Rattle.fields.specs.declared.Numbers.{Numbers}
+use Rattle.lines.specs.Letters.{a, d, e, k, n, o, p, r, t, w}
+use Rattle.lines.specs.declared.Kind.{Kind}
+use Rattle.lines.specs.declared.Line.{Line}
+use Rattle.lines.specs.declared.Line.the-variants.{New, Add, Note, Report, Done, Attr, Wake, Bad}
+use Rattle.lines.specs.declared.Kind.the-variants as kind
 
 -- the word of a kind, with its comma
 abbrev pub wordOf : Kind → List ℕ
@@ -44,22 +43,6 @@ seven = kind.New ∷ kind.Add ∷ kind.Note ∷ kind.Report ∷ kind.Done ∷ ki
 abbrev pub kindOf : List ℕ → Kind
 kindOf s = firstOf seven s
 
--- the greatest number of each width; "Flags are 0 or 1"
-abbrev pub flag : ℕ
-flag = 1
-
-abbrev pub bits8 : ℕ
-bits8 = 0xff
-
-abbrev pub bits16 : ℕ
-bits16 = 0xffff
-
-abbrev pub bits32 : ℕ
-bits32 = 0xffff_ffff
-
-abbrev pub bits64 : ℕ
-bits64 = 0xffff_ffff_ffff_ffff
-
 -- "new,capacity / add,now,fabric,peer,min,max,events,rx / note,endpoint,cluster,attribute / report,now,events,icd,all / done,id,outcome /
 -- attr,id,endpoint,cluster,attribute / wake,events,icd", and "capacity, fabric and outcome 8 bits, min, max and rx 16, id 32, now, peer and
 -- events 64", endpoint 16, cluster and attribute 32
@@ -72,30 +55,6 @@ widthsOf kind.Done = bits32 ∷ bits8 ∷ []
 widthsOf kind.Attr = bits32 ∷ bits16 ∷ bits32 ∷ bits32 ∷ []
 widthsOf kind.Wake = bits64 ∷ flag ∷ []
 widthsOf kind.Other = []
-
--- how many fields can be read at once
-abbrev pub places : ℕ
-places = 12
-
--- not the fields that were asked for
-abbrev pub none : Numbers
-none = record { all = false; at = replicate places 0 }
-
--- the numbers after a field: with a comma behind it the part goes on, without one no field may be left
-abbrev pub numbersBy : (ℕ → ℕ → Numbers) → List ℕ → List ℕ → ℕ → Field → Numbers
-numbersBy go ws v j field.Bad = none
-numbersBy go ws v j (field.Last x) = cond (eqb (length ws) 0) (record { all = true; at = set v j x }) none
-numbersBy go ws v j (field.More x next) = go x next
-
--- a field for each width, put into v from the place j on; "The rest of a line after each comma goes on as a part"
-unfoldable pub numbersFrom : List ℕ → List ℕ → ℕ → List ℕ → Numbers
-numbersFrom [] v j s = none
-numbersFrom (w ∷ ws) v j s =
-    numbersBy (λ x next. numbersFrom ws (set v j x) (j + 1) (drop next s)) ws v j (fieldOf w s)
-
--- the numbers of a part that is made of as many fields as there are widths, and of nothing else
-unfoldable pub numbersOf : List ℕ → List ℕ → Numbers
-numbersOf ws s = cond (leb (length ws) places) (numbersFrom ws (replicate places 0) 0 s) none
 
 -- a line of a kind, of its numbers in order
 abbrev pub filled : Kind → List ℕ → Line

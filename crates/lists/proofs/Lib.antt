@@ -4,3 +4,4 @@ pub mod Removals
 pub mod Arrays
 pub mod Orders
 pub mod Places
+pub mod Parts
