@@ -7,13 +7,13 @@ use Prim.Native.Nat.{_≤_, _<_}
 use borrow.Author.Tests.{lt-ltb, le-ltb, leb-true, eqb-false, not-true}
 use lib.Dec.{leb, eqb}
 use lib.ListN.{length}
-use Rattle.changes.specs.declared.ChangedAttr.{ChangedAttr}
+use Rattle.entries.specs.declared.ChangedAttr.{ChangedAttr}
 use Rattle.changes.specs.declared.ChangedAttrs.{ChangedAttrs}
-use Rattle.changes.specs.declared.Level.the-variants.{Cluster, Endpoint}
+use Rattle.entries.specs.declared.Level.the-variants.{Cluster, Endpoint}
 use Rattle.changes.specs.declared.Group.{Group}
 use Rattle.lists.specs.Search.{some}
 use Rattle.lists.specs.Removal.{sweep}
-use Rattle.changes.specs.Paths.{allWild, over, under}
+use Rattle.entries.specs.Paths.{allWild, over, under}
 use Rattle.changes.specs.Notes.{refreshed, placed, largest, folded, crowded, inserted, entered}
 use Rattle.changes.specs.Logs.{kept}
 use Rattle.lists.proofs.Bools.{and-both}

@@ -10,18 +10,18 @@ use native.Mathlib.Omega.{arith}
 use borrow.Author.Tests.{le-leb, leb-true, le-ltb, ltb-true, ltb-false, not-true}
 use lib.Dec.{ltb, leb}
 use lib.ListN.{length, length-append}
-use Rattle.changes.specs.declared.ChangedAttr.{ChangedAttr}
-use Rattle.changes.specs.declared.Level.{Level}
-use Rattle.changes.specs.declared.Level.the-variants.{Cluster, Endpoint}
+use Rattle.entries.specs.declared.ChangedAttr.{ChangedAttr}
+use Rattle.entries.specs.declared.Level.{Level}
+use Rattle.entries.specs.declared.Level.the-variants.{Cluster, Endpoint}
 use Rattle.lists.specs.Search.{some}
 use Rattle.lists.specs.Removal.{sweep}
-use Rattle.changes.specs.Paths.{withIdentity, allWild, covers, over, under, above}
+use Rattle.entries.specs.Paths.{withIdentity, allWild, covers, over, under, above}
 use Rattle.changes.specs.Notes.{refreshed, placed, largest, newest, folded, crowded, inserted, entered}
 use Rattle.changes.specs.Reach.{reaches}
 use Rattle.lists.proofs.Bools.{split, clash, and-both, and-true, or-either, or-left, or-right}
 use Rattle.lists.proofs.Searches.{some-append, some-front, some-end, some-weaken, some-tells, some-by, some-unchanged, some-changed, some-changing, length-changed}
 use Rattle.lists.proofs.Removals.{length-swept, stays, was-there}
-use Rattle.changes.proofs.Covering.{covers-self, covers-trans, wild-covers}
+use Rattle.entries.proofs.Covering.{covers-self, covers-trans, wild-covers, over-covers, under-covers, renewed-covers, above-at}
 use Rattle.changes.proofs.Groups.{largest-covers, folded-room}
 
 -- ---- identities
@@ -39,15 +39,15 @@ newest-least p q k (x ∷ xs) f h =
 
 -- and is one that some entry has
 newest-had : (p : ChangedAttr → Bool) (k : ℕ) (l : List ChangedAttr) → k < newest p l → some (above k) l ≡ true
-unfolding some newest above
+unfolding some newest
 newest-had p k [] h = absurd (omega arith)
 newest-had p k (x ∷ xs) h =
-    split (ltb k (x .identity))
+    split (above k x)
     (λ t. or-left (some (above k) xs) t)
-    (λ t. let low : x .identity ≤ k = ltb-false _ _ t in
+    (λ t. let low : x .identity ≤ k = ltb-false _ _ (sym (above-at k x) ∙ t) in
     split (p x)
-    (λ u. or-right (ltb k (x .identity)) (newest-had p k xs (let w = rw (u, newest) at h in omega arith)))
-    (λ u. or-right (ltb k (x .identity)) (newest-had p k xs (let w = rw (u, newest) at h in omega arith))))
+    (λ u. or-right (above k x) (newest-had p k xs (let w = rw (u, newest) at h in omega arith)))
+    (λ u. or-right (above k x) (newest-had p k xs (let w = rw (u, newest) at h in omega arith))))
 
 module _ (n : ChangedAttr) where
   -- ---- the ways to place a note: what holds of each holds of the outcome
@@ -81,8 +81,8 @@ module _ (n : ChangedAttr) where
     at-end l = some-end r l n (told n (covers-self n))
 
     in-place : (l : List ChangedAttr) → some (over n) l ≡ true → some r (refreshed n l) ≡ true
-    unfolding refreshed over
-    in-place l h = some-changing (over n) r (withIdentity (n .identity)) l told h
+    unfolding refreshed
+    in-place l h = some-changing (over n) r (withIdentity (n .identity)) l (λ x c. told x (sym (over-covers n x) ∙ c)) h
 
     -- whatever holds of every entry that covers the note and has its identity holds of some entry afterwards
     pub entered-has : (l : List ChangedAttr) → some r (entered n l) ≡ true
@@ -100,8 +100,8 @@ module _ (n : ChangedAttr) where
   module _ (q : ChangedAttr) (k : ℕ) (late : k ≤ n .identity) where
     -- an entry that covers q stands for it with the note's identity too
     renewed-reaches : (x : ChangedAttr) → covers x q ≡ true → reaches q k (withIdentity (n .identity) x) ≡ true
-    unfolding reaches covers
-    renewed-reaches x h = and-true h (le-leb k (n .identity) late)
+    unfolding reaches
+    renewed-reaches x h = and-true (renewed-covers x q (n .identity) ∙ h) (le-leb k (n .identity) late)
 
     reaches-covers : (x : ChangedAttr) → reaches q k x ≡ true → covers x q ≡ true
     unfolding reaches
@@ -118,8 +118,7 @@ module _ (n : ChangedAttr) where
 
     -- of two entries, one covered by the other, the coarser covers what the finer does
     coarser : (by x : ChangedAttr) → (reaches q k x && under by x) ≡ true → covers by q ≡ true
-    unfolding under
-    coarser by x h = let w = and-both _ _ h in covers-trans by x q (w .1) (reaches-covers x (w .0))
+    coarser by x h = let w = and-both _ _ h in covers-trans by x q (sym (under-covers by x) ∙ w .1) (reaches-covers x (w .0))
 
     kept-out : (by x : ChangedAttr) → (reaches q k x && not (under by x)) ≡ true → under by x ≡ false
     kept-out by x h = not-true (under by x) (and-both (reaches q k x) (not (under by x)) h .1)
@@ -133,10 +132,10 @@ module _ (n : ChangedAttr) where
 
     folded-end : (by : ChangedAttr) (l : List ChangedAttr) → some (λ x. reaches q k x && under by x) l ≡ true
         → reaches q k (withIdentity (newest (under by) l) by) ≡ true
-    unfolding reaches covers
+    unfolding reaches
     folded-end by l h =
         and-true
-        (some-tells (λ x. reaches q k x && under by x) l (coarser by) h)
+        (renewed-covers by q (newest (under by) l) ∙ some-tells (λ x. reaches q k x && under by x) l (coarser by) h)
         (le-leb k (newest (under by) l)
         (newest-least (under by) (λ x. reaches q k x && under by x) k l
         (λ x e. let w = and-both _ _ e in (w .1, leb-true k (x .identity) (and-both (covers x q) (leb k (x .identity)) (w .0) .1))) h))
@@ -172,8 +171,7 @@ module _ (n : ChangedAttr) where
   module _ (w : ℕ) (low : n .identity ≤ w) where
     -- an entry with the note's identity is not above w
     not-above : (x : ChangedAttr) → above w (withIdentity (n .identity) x) ≡ false
-    unfolding above
-    not-above x = le-ltb w (n .identity) low
+    not-above x = above-at w (withIdentity (n .identity) x) ∙ le-ltb w (n .identity) low
 
     -- an entry above w is one that was there
     abbrev Old : List ChangedAttr → List ChangedAttr → Type 0
@@ -191,12 +189,12 @@ module _ (n : ChangedAttr) where
     refreshed-old l m f h = f (some-unchanged (over n) (above w) (withIdentity (n .identity)) m not-above h)
 
     folded-old : (by : ChangedAttr) (l m : List ChangedAttr) → Old l m → Old l (folded by m)
-    unfolding folded some above
+    unfolding folded some
     folded-old by l m f h =
         let e = withIdentity (newest (under by) m) by in
         ⊎-elim
         (λ t. f (was-there (under by) (above w) m t))
-        (λ t. ⊎-elim (λ u. f (newest-had (under by) w m (ltb-true _ _ u))) (λ u. absurd (clash u refl)) (or-either (above w e) false t))
+        (λ t. ⊎-elim (λ u. f (newest-had (under by) w m (ltb-true _ _ (sym (above-at w e) ∙ u)))) (λ u. absurd (clash u refl)) (or-either (above w e) false t))
         (or-either (some (above w) (sweep (under by) m)) (some (above w) (e ∷ []))
         (sym (some-append (above w) (sweep (under by) m) (e ∷ [])) ∙ h))
 

@@ -8,15 +8,15 @@ use native.Mathlib.Omega.{arith}
 use native.Mathlib.Nat.{le-refl}
 use lib.Dec.{ltb}
 use lib.ListN.{length, length-append}
-use Rattle.changes.specs.declared.ChangedAttr.{ChangedAttr}
-use Rattle.changes.specs.declared.Level.{Level}
-use Rattle.changes.specs.declared.Coarser.{Coarser}
-use Rattle.changes.specs.declared.Coarser.the-variants.{To, Nothing}
+use Rattle.entries.specs.declared.ChangedAttr.{ChangedAttr}
+use Rattle.entries.specs.declared.Level.{Level}
+use Rattle.entries.specs.declared.Coarser.{Coarser}
+use Rattle.entries.specs.declared.Coarser.the-variants.{To, Nothing}
 use Rattle.changes.specs.declared.Group.{Group}
 use Rattle.lists.specs.Search.{count}
 use Rattle.lists.specs.Removal.{sweep}
-use Rattle.changes.specs.Paths.{blank, under, withIdentity}
-use Rattle.changes.specs.Notes.{candidate, sized, groupOf, larger, largestFrom, largest, newest, folded}
+use Rattle.entries.specs.Paths.{blank, under, withIdentity, candidate}
+use Rattle.changes.specs.Notes.{sized, groupOf, larger, largestFrom, largest, newest, folded}
 use Rattle.lists.proofs.Bools.{split}
 use Rattle.lists.proofs.Removals.{length-swept}
 

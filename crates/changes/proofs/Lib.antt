@@ -1,7 +1,6 @@
 pub mod Steps
 pub mod Cases
 pub mod Groups
-pub mod Covering
 pub mod Entering
 pub mod Promises
 pub mod Numbers

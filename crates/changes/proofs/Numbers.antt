@@ -6,7 +6,7 @@ use Prim.Native.Nat.{ℕ}
 use Rattle.changes.specs.declared.ChangedAttrs.{ChangedAttrs}
 use Rattle.lists.specs.Search.{one}
 use Rattle.changes.specs.Logs.{kept, watermarkOf, noted, purged, cleared, marked, anySince, changedSince, anyTold, pathTold}
-use Rattle.changes.specs.Numbers.{noteNumber, noteValue, changeNumber, toldNumber, toldValue, markNumber, markValue}
+use Rattle.answers.specs.Numbers.{noteNumber, noteValue, changeNumber, toldNumber, toldValue, markNumber, markValue}
 use Rattle.lists.proofs.Bools.{split}
 
 module _ (g : ChangedAttrs) where

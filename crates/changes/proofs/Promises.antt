@@ -12,15 +12,15 @@ use lib.Dec.{eqb, leb, ltb}
 use lib.ListN.{length, length-take}
 use lib.Seq.{take-append-seam}
 use Rattle.refusal.specs.declared.Refusal.the-variants.{NotWellKept}
-use Rattle.changes.specs.declared.ChangedAttr.{ChangedAttr}
+use Rattle.entries.specs.declared.ChangedAttr.{ChangedAttr}
 use Rattle.changes.specs.declared.ChangedAttrs.{ChangedAttrs}
-use Rattle.changes.specs.declared.NoteAnswer.the-variants as note
-use Rattle.changes.specs.declared.Change.the-variants as change
-use Rattle.changes.specs.declared.Told.the-variants as told
-use Rattle.changes.specs.declared.Mark.the-variants as mark
+use Rattle.answers.specs.declared.NoteAnswer.the-variants as note
+use Rattle.answers.specs.declared.Change.the-variants as change
+use Rattle.answers.specs.declared.Told.the-variants as told
+use Rattle.answers.specs.declared.Mark.the-variants as mark
 use Rattle.lists.specs.Search.{some}
 use Rattle.lists.specs.Removal.{sweep}
-use Rattle.changes.specs.Paths.{entry, covers, over, under, upTo, above, since}
+use Rattle.entries.specs.Paths.{entry, covers, over, under, upTo, above, since}
 use Rattle.changes.specs.Notes.{newest, entered}
 use Rattle.changes.specs.Logs.{entriesOf, holding, kept, freshLog, identityAfter, watermarkOf, noteOf, afterNote, noted, afterPurge, purged, cleared, marked, newestOf, newestMark, anySince, changedSince, anyTold, pathTold}
 use Rattle.changes.specs.Reach.{carries, reaches, reached, covered, Bounded, Tidy, Came, fresh, note, purge, clear}
@@ -28,7 +28,7 @@ use Rattle.lists.proofs.Bools.{or-left, or-right, split, and-both, and-true, no
 use Rattle.lists.proofs.Searches.{some-weaken}
 use Rattle.lists.proofs.Removals.{length-swept, stays, was-there}
 use Rattle.changes.proofs.Cases.{kept-fits, kept-next}
-use Rattle.changes.proofs.Covering.{matches-covers, covers-trans, covers-self}
+use Rattle.entries.proofs.Covering.{covers-trans, covers-self, renewed-covers, since-covers, upTo-at, above-at}
 use Rattle.changes.proofs.Entering.{entered-has, entered-keeps, entered-old, entered-fits}
 
 -- ---- a log and its entries
@@ -172,19 +172,21 @@ module _ (g : ChangedAttrs) (h : kept g ≡ true) (e c a : ℕ) where
 
   -- some entry covers the note with its identity
   pub note-carried : some (carries (noteOf g e c a) (g .next)) (entriesOf (noted g e c a .log)) ≡ true
-  unfolding carries covers
+  unfolding carries
   note-carried =
       rw noted-entries
       (entered-has (noteOf g e c a) (carries (noteOf g e c a) (g .next))
-      (λ x w. and-true w (eq-eqb (g .next) (g .next) refl)) (entriesOf g))
+      (λ x w. and-true (renewed-covers x (noteOf g e c a) (g .next) ∙ w) (eq-eqb (g .next) (g .next) refl)) (entriesOf g))
 
   -- so does some entry for every path under the note
   pub note-new : (q : ChangedAttr) → covers (noteOf g e c a) q ≡ true → reached (noted g e c a .log) q (g .next) ≡ true
-  unfolding reaches covers
+  unfolding reaches
   note-new q u =
       rw noted-entries
       (entered-has (noteOf g e c a) (reaches q (g .next))
-      (λ x w. and-true (covers-trans x (noteOf g e c a) q w u) (le-leb (g .next) (g .next) (le-refl (g .next)))) (entriesOf g))
+      (λ x w. and-true
+      (renewed-covers x q (g .next) ∙ covers-trans x (noteOf g e c a) q w u)
+      (le-leb (g .next) (g .next) (le-refl (g .next)))) (entriesOf g))
 
   -- what some entry stood for with identity k or a later one, some entry still does
   pub note-keeps : (q : ChangedAttr) (k : ℕ) → k ≤ g .next → reached g q k ≡ true → reached (noted g e c a .log) q k ≡ true
@@ -192,14 +194,15 @@ module _ (g : ChangedAttrs) (h : kept g ≡ true) (e c a : ℕ) where
 
   -- no identity is above the watermark, while identities have not begun again
   pub note-bounded : g .next < 18446744073709551615 → Bounded g → Bounded (noted g e c a .log)
-  unfolding above
   note-bounded low b =
       rw (noted-entries, note-grows low)
       (not-so
       (entered-old (noteOf g e c a) (g .next + 1 - 1) (omega arith) (entriesOf g))
       (not-so
       (some-weaken (above (g .next + 1 - 1)) (above (watermarkOf g)) (entriesOf g)
-      (λ x w. lt-ltb (watermarkOf g) (x .identity) (let t = ltb-true (g .next + 1 - 1) (x .identity) w in omega arith)))
+      (λ x w. above-at (watermarkOf g) x
+      ∙ lt-ltb (watermarkOf g) (x .identity)
+      (let t = ltb-true (g .next + 1 - 1) (x .identity) (sym (above-at (g .next + 1 - 1) x) ∙ w) in omega arith)))
       b))
 
 -- ---- a purge
@@ -226,12 +229,12 @@ module _ (g : ChangedAttrs) (t : ℕ) where
 
   -- what is stood for with an identity above the threshold stays so
   pub purge-keeps : (q : ChangedAttr) (k : ℕ) → t < k → reached g q k ≡ true → reached (purged g t .log) q k ≡ true
-  unfolding reaches upTo
+  unfolding reaches
   purge-keeps q k low r =
       purged-by (λ m. reached m q k ≡ true) r
       (rw (entries-held (sweep (upTo t) (entriesOf g)) (g .next))
       (stays (upTo t) (reaches q k) (entriesOf g)
-      (λ x w. lt-leb (x .identity) t (let i = leb-true k (x .identity) (and-both (covers x q) (leb k (x .identity)) w .1) in omega arith)) r))
+      (λ x w. upTo-at t x ∙ lt-leb (x .identity) t (let i = leb-true k (x .identity) (and-both (covers x q) (leb k (x .identity)) w .1) in omega arith)) r))
 
   pub purge-bounded : Bounded g → Bounded (purged g t .log)
   purge-bounded b =
@@ -268,32 +271,32 @@ module _ (g : ChangedAttrs) (q : ChangedAttr) (k s : ℕ) (low : s < k) (r : rea
 
   -- what is stood for with identity k is a change since every earlier watermark
   pub reached-any : anySince g s ≡ true
-  unfolding above
-  reached-any = some-weaken (reaches q k) (above s) (entriesOf g) newer r
+  reached-any = some-weaken (reaches q k) (above s) (entriesOf g) (λ x w. above-at s x ∙ newer x w) r
 
   -- and every path under it has changed since then
   pub reached-changed : (e c a : ℕ) → covers q (entry e c a s) ≡ true → changedSince g e c a s ≡ true
-  unfolding since reaches
+  unfolding reaches
   reached-changed e c a u =
       some-weaken (reaches q k) (since (entry e c a s)) (entriesOf g)
-      (λ x w. and-true (newer x w)
-      (matches-covers x (entry e c a s) ∙ covers-trans x q (entry e c a s) (and-both (covers x q) (leb k (x .identity)) w .0) u)) r
+      (λ x w. since-covers (entry e c a s) x
+      ∙ and-true (newer x w) (covers-trans x q (entry e c a s) (and-both (covers x q) (leb k (x .identity)) w .0) u)) r
 
 -- something has changed since an identity exactly where the greatest identity is above it
 newest-above : (s : ℕ) (l : List ChangedAttr) → some (above s) l ≡ ltb s (newest (above 0) l)
-unfolding some newest above
+unfolding some newest
 newest-above s [] = sym (le-ltb s 0 (omega arith))
 newest-above s (x ∷ xs) =
     let n = newest (above 0) xs in
     let ih = newest-above s xs in
-    let at : cond (ltb 0 (x .identity)) (x .identity) 0 ≡ x .identity =
-    split (ltb 0 (x .identity)) (λ t. rw t) (λ t. rw t (let z = ltb-false 0 (x .identity) t in omega arith)) in
-    split (ltb s (x .identity))
-    (λ t. or-left (some (above s) xs) t ∙ sym (lt-ltb s (max (cond (ltb 0 (x .identity)) (x .identity) 0) n) (let w = ltb-true s (x .identity) t in omega arith)))
-    (λ t. let low = ltb-false s (x .identity) t in
+    let at : cond (above 0 x) (x .identity) 0 ≡ x .identity =
+    split (above 0 x) (λ t. rw t) (λ t. rw t (let z = ltb-false 0 (x .identity) (sym (above-at 0 x) ∙ t) in omega arith)) in
+    split (above s x)
+    (λ t. or-left (some (above s) xs) t
+    ∙ sym (lt-ltb s (max (cond (above 0 x) (x .identity) 0) n) (let w = ltb-true s (x .identity) (sym (above-at s x) ∙ t) in omega arith)))
+    (λ t. let low = ltb-false s (x .identity) (sym (above-at s x) ∙ t) in
     split (ltb s n)
-    (λ u. or-right (ltb s (x .identity)) (ih ∙ u) ∙ sym (lt-ltb s (max (cond (ltb 0 (x .identity)) (x .identity) 0) n) (let w = ltb-true s n u in omega arith)))
-    (λ u. rw t (ih ∙ u) ∙ sym (le-ltb s (max (cond (ltb 0 (x .identity)) (x .identity) 0) n) (let w = ltb-false s n u in omega arith))))
+    (λ u. or-right (above s x) (ih ∙ u) ∙ sym (lt-ltb s (max (cond (above 0 x) (x .identity) 0) n) (let w = ltb-true s n u in omega arith)))
+    (λ u. rw t (ih ∙ u) ∙ sym (le-ltb s (max (cond (above 0 x) (x .identity) 0) n) (let w = ltb-false s n u in omega arith))))
 
 pub newest-any : (g : ChangedAttrs) (s : ℕ) → anySince g s ≡ ltb s (newestOf g)
 newest-any g s = newest-above s (entriesOf g)

@@ -1,4 +1,4 @@
--- One turn of each loop over the log's array, and what a step of a note hands on. The definitions' own laws are in `Laws`.
+-- One turn of each loop over the log's array, and what a step of a note hands on. The definitions' cases are in `Cases`.
 -- Assumes nothing.
 use mathlib.Core.Path.{_≡_, sym, ap, _∙_}
 use mathlib.Core.Bool.{Bool, true, false}
@@ -9,12 +9,12 @@ use native.Mathlib.Numerals.{add-one}
 use lib.Dec.{ltb}
 use lib.ListN.{length, take, getD, set, replicate, replicate-append-replicate}
 use lib.Seq.{slice, getD-take, length-take-le, take-all, take-set-lt, take-suc-set}
-use Rattle.changes.specs.declared.ChangedAttr.{ChangedAttr}
+use Rattle.entries.specs.declared.ChangedAttr.{ChangedAttr}
 use Rattle.changes.specs.declared.ChangedAttrs.{ChangedAttrs}
 use Rattle.changes.specs.declared.Group.{Group}
-use Rattle.changes.specs.declared.Level.{Level}
+use Rattle.entries.specs.declared.Level.{Level}
 use Rattle.lists.specs.Search.{some, first}
-use Rattle.changes.specs.Paths.{blank, withIdentity, over}
+use Rattle.entries.specs.Paths.{blank, withIdentity, over}
 use Rattle.changes.specs.Notes.{newest, refreshed, larger, groupOf, largestFrom}
 use Rattle.changes.specs.Logs.{entriesOf, Holds, holding}
 use Rattle.lists.proofs.Searches.{first-some, changed-at}

@@ -7,19 +7,19 @@ use Prim.Native.Nat.{ℕ, _+_, _-_, _≤_}
 use lib.Dec.{eqb, leb}
 use lib.ListN.{length, take, replicate}
 use Rattle.refusal.specs.declared.Refusal.the-variants.{NotWellKept}
-use Rattle.changes.specs.declared.ChangedAttr.{ChangedAttr}
+use Rattle.entries.specs.declared.ChangedAttr.{ChangedAttr}
 use Rattle.changes.specs.declared.ChangedAttrs.{ChangedAttrs}
 use Rattle.changes.specs.declared.Noted.{Noted}
 use Rattle.changes.specs.declared.Changed.{Changed}
-use Rattle.changes.specs.declared.Told.{Told}
-use Rattle.changes.specs.declared.Mark.{Mark}
-use Rattle.changes.specs.declared.NoteAnswer.the-variants as note
-use Rattle.changes.specs.declared.Change.the-variants as change
-use Rattle.changes.specs.declared.Told.the-variants as told
-use Rattle.changes.specs.declared.Mark.the-variants as mark
+use Rattle.answers.specs.declared.Told.{Told}
+use Rattle.answers.specs.declared.Mark.{Mark}
+use Rattle.answers.specs.declared.NoteAnswer.the-variants as note
+use Rattle.answers.specs.declared.Change.the-variants as change
+use Rattle.answers.specs.declared.Told.the-variants as told
+use Rattle.answers.specs.declared.Mark.the-variants as mark
 use Rattle.lists.specs.Search.{some}
 use Rattle.lists.specs.Removal.{sweep}
-use Rattle.changes.specs.Paths.{entry, blank, upTo, above, since}
+use Rattle.entries.specs.Paths.{entry, blank, upTo, above, since}
 use Rattle.changes.specs.Notes.{capacity, newest, entered}
 
 -- the entries that a log holds, in order

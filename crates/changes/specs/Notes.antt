@@ -1,19 +1,19 @@
 -- What a note does to the list of entries, as document 01 has it, "Change log". The array that holds them is `Logs`' matter.
 -- Assumes nothing.
-use mathlib.Core.Bool.{Bool, cond, _||_}
+use mathlib.Core.Bool.{Bool, cond}
 use mathlib.Core.List.{List, [], _∷_, _++_}
 use Prim.Native.Nat.{ℕ, max}
-use lib.Dec.{eqb, ltb}
+use lib.Dec.{ltb}
 use lib.ListN.{length}
-use Rattle.changes.specs.declared.ChangedAttr.{ChangedAttr}
-use Rattle.changes.specs.declared.Level.{Level}
-use Rattle.changes.specs.declared.Level.the-variants.{Cluster, Endpoint}
-use Rattle.changes.specs.declared.Coarser.{Coarser}
-use Rattle.changes.specs.declared.Coarser.the-variants.{To, Nothing}
+use Rattle.entries.specs.declared.ChangedAttr.{ChangedAttr}
+use Rattle.entries.specs.declared.Level.{Level}
+use Rattle.entries.specs.declared.Level.the-variants.{Cluster, Endpoint}
+use Rattle.entries.specs.declared.Coarser.{Coarser}
+use Rattle.entries.specs.declared.Coarser.the-variants.{To, Nothing}
 use Rattle.changes.specs.declared.Group.{Group}
 use Rattle.lists.specs.Search.{some, count, changeFirst}
 use Rattle.lists.specs.Removal.{sweep}
-use Rattle.changes.specs.Paths.{entry, withIdentity, wildEndpoint, wildCluster, wildAttr, allWild, blank, over, under}
+use Rattle.entries.specs.Paths.{withIdentity, allWild, blank, over, under, candidate}
 
 -- "Sixteen entries"
 abbrev pub capacity : ℕ
@@ -26,12 +26,6 @@ refreshed n l = changeFirst (over n) (withIdentity (n .identity)) l
 -- "the first entry that covers the note takes its identity, and that is all; else .. the note goes at the end"
 unfoldable pub placed : ChangedAttr → List ChangedAttr → List ChangedAttr
 placed n l = cond (some (over n) l) (refreshed n l) (l ++ (n ∷ []))
-
--- "level 1 makes a candidate of endpoint and cluster from each entry where neither is wild; level 2 of endpoint alone where it isn't wild."
-unfoldable pub candidate : Level → ChangedAttr → Coarser
-candidate Cluster x =
-    cond (eqb (x .endpoint) wildEndpoint || eqb (x .cluster) wildCluster) Nothing (To (entry (x .endpoint) (x .cluster) wildAttr 0))
-candidate Endpoint x = cond (eqb (x .endpoint) wildEndpoint) Nothing (To (entry (x .endpoint) wildCluster wildAttr 0))
 
 -- the candidate and how many of the entries it covers; no candidate covers none
 abbrev pub sized : List ChangedAttr → Coarser → Group

@@ -4,10 +4,10 @@ use mathlib.Core.Path.{_≡_}
 use mathlib.Core.Bool.{Bool, false, _&&_}
 use Prim.Native.Nat.{ℕ, zero, suc}
 use lib.Dec.{eqb, leb}
-use Rattle.changes.specs.declared.ChangedAttr.{ChangedAttr}
+use Rattle.entries.specs.declared.ChangedAttr.{ChangedAttr}
 use Rattle.changes.specs.declared.ChangedAttrs.{ChangedAttrs}
 use Rattle.lists.specs.Search.{some}
-use Rattle.changes.specs.Paths.{covers, above}
+use Rattle.entries.specs.Paths.{covers, above}
 use Rattle.changes.specs.Logs.{entriesOf, holding, freshLog, watermarkOf, noted, purged, cleared}
 
 -- the entry covers q with the identity k

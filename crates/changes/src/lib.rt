@@ -6,21 +6,19 @@ ghost use Prim.Native.Nat.{_≤_, _<_, max};
 ghost use lib.ListN.{set, getD};
 ghost use Rattle.lists.specs.Search.{count, first};
 ghost use Rattle.lists.specs.Removal.{sweep};
-ghost use Rattle.changes.specs.Paths.{blank, allWild, withIdentity, fieldCovers, fieldMatches, covers, matches, under, holds};
-ghost use Rattle.changes.specs.Notes.{newest, placed, candidate, groupOf, larger, largest, folded, crowded, entered};
+ghost use Rattle.entries.specs.Paths.{blank, allWild, withIdentity, under, holds};
+ghost use Rattle.changes.specs.Notes.{newest, placed, groupOf, larger, largest, folded, crowded, entered};
 ghost use Rattle.changes.specs.Logs.{entriesOf, Holds, holding, kept, identityAfter, freshLog, noted, purged, cleared, marked, newestMark, anyTold, pathTold};
-ghost use Rattle.changes.specs.Numbers.{markValue, saysYes};
+use answers::Change;
+use answers::Entered;
+use answers::Mark;
+use answers::NoteAnswer;
+use answers::Told;
+use entries::ChangedAttr;
+use entries::Coarser;
+use entries::Level;
+use entries::Rule;
 use refusal::Refusal;
-
-// One entry: a path, and the identity of its latest change. A wild field stands for every value of it. Its layout is C's, as the log's, so
-// that a host in another language can lend one.
-#[repr(C)]
-pub struct ChangedAttr {
-    pub identity: u64,
-    pub cluster: u32,
-    pub attr: u32,
-    pub endpoint: u16,
-}
 
 // The log: its entries are the first `len` places; `next` is the identity that the next note takes.
 #[repr(C)]
@@ -30,64 +28,14 @@ pub struct ChangedAttrs {
     pub next: u64,
 }
 
-// What a note that was entered is told.
-pub struct Entered {
-    pub identity: u64,
-}
-
-pub enum NoteAnswer {
-    Entered(Entered),
-    Refused(Refusal),
-}
-
 pub struct Noted {
     pub answer: NoteAnswer,
     pub log: ChangedAttrs,
 }
 
-// The answer of a call that changes the log and has nothing to tell.
-pub enum Change {
-    Done,
-    Refused(Refusal),
-}
-
 pub struct Changed {
     pub answer: Change,
     pub log: ChangedAttrs,
-}
-
-pub enum Told {
-    Is(bool),
-    Refused(Refusal),
-}
-
-pub enum Mark {
-    At(u64),
-    Refused(Refusal),
-}
-
-impl Told {
-    // Whether the answer is yes; a refusal is no answer.
-    pub fn is_yes(self) -> bool
-        ensures { λ r. ⌜ r ≡ saysYes self ⌝ }
-    {
-        match self {
-            Told::Is(answer) => answer,
-            Told::Refused(_) => false,
-        }
-    }
-}
-
-impl Mark {
-    // The identity of the answer; 0 where it is a refusal.
-    pub fn value(self) -> u64
-        ensures { λ r. ⌜ r ≡ markValue self ⌝ }
-    {
-        match self {
-            Mark::At(identity) => identity,
-            Mark::Refused(_) => 0,
-        }
-    }
 }
 
 impl ChangedAttrs {
@@ -259,157 +207,10 @@ fn promote_and_insert(log: ChangedAttrs, new: ChangedAttr) -> ChangedAttrs
     alone(log, new.identity)
 }
 
-// Which entries a scan is after.
-pub enum Rule {
-    // Those that cover the entry.
-    Over(ChangedAttr),
-    // Those that the entry covers.
-    Under(ChangedAttr),
-    // Those with an identity up to the number.
-    UpTo(u64),
-    // Those with an identity above the number.
-    Above(u64),
-    // Those that match the entry's path and have an identity above the entry's.
-    Since(ChangedAttr),
-}
-
-// How coarse a group is.
-pub enum Level {
-    // All attributes of one cluster on one endpoint.
-    Cluster,
-    // All attributes of all clusters on one endpoint.
-    Endpoint,
-}
-
-// The coarser entry that stands for an entry's group, where it has one.
-pub enum Coarser {
-    To(ChangedAttr),
-    Nothing,
-}
-
 // A coarser entry, and how many entries it covers.
 pub struct Group {
     pub by: ChangedAttr,
     pub size: usize,
-}
-
-impl ChangedAttr {
-    // The values that stand for every endpoint, cluster and attribute. No device has such an id.
-    pub const WILD: ChangedAttr = ChangedAttr {
-        identity: 0,
-        cluster: 4294967295,
-        attr: 4294967295,
-        endpoint: 65535,
-    };
-
-    // What stands in a place that holds no entry.
-    pub const BLANK: ChangedAttr = ChangedAttr {
-        identity: 0,
-        cluster: 0,
-        attr: 0,
-        endpoint: 0,
-    };
-
-    // Whether whoever hears of this entry hears of the other's path too.
-    fn covers(self, other: ChangedAttr) -> bool
-        ensures { λ r. ⌜ r ≡ covers self other ⌝ }
-    {
-        let wild = Self::WILD;
-        if field_covers(
-            wild.endpoint as u32,
-            self.endpoint as u32,
-            other.endpoint as u32,
-        ) {
-            if field_covers(wild.cluster, self.cluster, other.cluster) {
-                return field_covers(wild.attr, self.attr, other.attr);
-            }
-        }
-        false
-    }
-
-    // Whether the path is among those that this entry stands for.
-    fn matches(self, path: ChangedAttr) -> bool
-        ensures { λ r. ⌜ r ≡ matches self path ⌝ }
-    {
-        let wild = Self::WILD;
-        if field_matches(
-            wild.endpoint as u32,
-            self.endpoint as u32,
-            path.endpoint as u32,
-        ) {
-            if field_matches(wild.cluster, self.cluster, path.cluster) {
-                return field_matches(wild.attr, self.attr, path.attr);
-            }
-        }
-        false
-    }
-
-    // The entry of this one's group at the level. An entry that is as coarse already has none.
-    fn coarsen(self, level: Level) -> Coarser
-        ensures { λ r. ⌜ r ≡ candidate level self ⌝ }
-    {
-        let wild = Self::WILD;
-        if self.endpoint == wild.endpoint {
-            return Coarser::Nothing;
-        }
-        match level {
-            Level::Cluster => {
-                if self.cluster == wild.cluster {
-                    return Coarser::Nothing;
-                }
-                Coarser::To(ChangedAttr {
-                    identity: 0,
-                    cluster: self.cluster,
-                    attr: wild.attr,
-                    endpoint: self.endpoint,
-                })
-            }
-            Level::Endpoint => Coarser::To(ChangedAttr {
-                identity: 0,
-                cluster: wild.cluster,
-                attr: wild.attr,
-                endpoint: self.endpoint,
-            }),
-        }
-    }
-}
-
-fn field_covers(wild: u32, a: u32, b: u32) -> bool
-    ensures { λ r. ⌜ r ≡ fieldCovers wild a b ⌝ }
-{
-    if a == wild {
-        return true;
-    }
-    if b == wild {
-        return false;
-    }
-    a == b
-}
-
-fn field_matches(wild: u32, a: u32, b: u32) -> bool
-    ensures { λ r. ⌜ r ≡ fieldMatches wild a b ⌝ }
-{
-    if a == wild {
-        return true;
-    }
-    a == b
-}
-
-fn meets(rule: Rule, x: ChangedAttr) -> bool
-    ensures { λ r. ⌜ r ≡ holds rule x ⌝ }
-{
-    match rule {
-        Rule::Over(e) => x.covers(e),
-        Rule::Under(e) => e.covers(x),
-        Rule::UpTo(t) => x.identity <= t,
-        Rule::Above(s) => s < x.identity,
-        Rule::Since(e) => {
-            if e.identity < x.identity {
-                return x.matches(e);
-            }
-            false
-        }
-    }
 }
 
 // The place of the first entry that meets the rule, or the number of entries where none does.
@@ -421,7 +222,7 @@ fn find(log: ChangedAttrs, rule: Rule) -> usize
     let mut i: usize = 0;
     while i < n {
         let x = log.entries[i];
-        if meets(rule, x) {
+        if rule.meets(x) {
             return i;
         }
         i += 1;
@@ -440,7 +241,7 @@ fn tally(log: ChangedAttrs, rule: Rule) -> usize
     while i < n {
         let x = log.entries[i];
         i += 1;
-        if meets(rule, x) {
+        if rule.meets(x) {
             found += 1;
         }
     }
@@ -458,7 +259,7 @@ fn newest_of(log: ChangedAttrs, rule: Rule) -> u64
     while i < n {
         let x = log.entries[i];
         i += 1;
-        if meets(rule, x) {
+        if rule.meets(x) {
             most = greater(most, x.identity);
         }
     }
@@ -481,7 +282,7 @@ fn swept(log: ChangedAttrs, rule: Rule) -> ChangedAttrs
     let mut i: usize = 0;
     while i < n {
         let x = rest.entries[i];
-        if meets(rule, x) {
+        if rule.meets(x) {
             n -= 1;
             let last = rest.entries[n];
             rest.entries[i] = last;

@@ -3,9 +3,9 @@
 -- Assumes nothing.
 use Prim.Native.Nat.{ℕ}
 use Rattle.changes.specs.declared.ChangedAttrs.{ChangedAttrs}
-use Rattle.changes.specs.declared.NoteAnswer.{NoteAnswer}
+use Rattle.answers.specs.declared.NoteAnswer.{NoteAnswer}
 use Rattle.changes.specs.Logs.{noted}
-use Rattle.changes.specs.Numbers.{noteNumber, noteValue}
+use Rattle.answers.specs.Numbers.{noteNumber, noteValue}
 use Rattle.lent.specs.declared.LentAnswer.{LentAnswer}
 use Rattle.lent.specs.declared.LentNote.{LentNote}
 

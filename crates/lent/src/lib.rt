@@ -2,8 +2,8 @@
 // keeps its log in place; what a note does is crate changes' matter. No enum crosses to the host, so the answer is put in numbers.
 ghost use mathlib.Core.Path.{_≡_};
 ghost use Rattle.lent.specs.Lent.{lentAnswer, lent, lentNote};
+use answers::NoteAnswer;
 use changes::ChangedAttrs;
-use changes::NoteAnswer;
 
 // What the host is told: document 01's number, 0 for none, and the identity, 0 where the note was refused.
 #[repr(C)]

@@ -1,8 +1,8 @@
 // Document 01's marked examples P1 to P10 as the compiled code answers them, a line each. That the definitions give these values is proved in
 // crate rules; here the code itself is run, since the proofs do not cover the compiler's back end.
 ghost use Prim.Native.Nat.{_<_};
-use changes::ChangedAttr;
 use changes::ChangedAttrs;
+use entries::ChangedAttr;
 use libc::STDOUT_FILENO;
 use time::KeepAlive;
 

@@ -6,8 +6,8 @@ use Rattle.lists.specs.Removal.{lastOf, initOf, refilled, sweepFor, sweep, take
 use Rattle.time.specs.Instants.{later}
 use Rattle.time.specs.Intervals.{backoffSecs, dueAfterSecs, grantedMaxSecs}
 use Rattle.time.specs.Moments.{sinceReport, retryAt, expired}
-use Rattle.changes.specs.Paths.{fieldCovers, covers, fieldMatches, matches, over, under, above, since, upTo}
-use Rattle.changes.specs.Notes.{refreshed, placed, candidate, groupOf, larger, largestFrom, largest, newest, folded, crowded, inserted, entered}
+use Rattle.entries.specs.Paths.{fieldCovers, covers, fieldMatches, matches, over, under, above, since, upTo, candidate}
+use Rattle.changes.specs.Notes.{refreshed, placed, groupOf, larger, largestFrom, largest, newest, folded, crowded, inserted, entered}
 use Rattle.changes.specs.Logs.{holding, kept, identityAfter, noted, purged, cleared}
 use Rattle.subscription.specs.When.{gateOf, allowedOf, dueOf, isDue, pending, along, reportable, nextOf, isOver}
 use Rattle.subscription.specs.Life.{priming, resumed, opened, storedWith, closed, givesUp, keeps, failed}

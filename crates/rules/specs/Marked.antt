@@ -5,13 +5,13 @@ use mathlib.Core.Bool.{false}
 use mathlib.Core.List.{List, [], _∷_, map}
 use Prim.Native.Nat.{ℕ, zero, suc, _+_}
 use Rattle.time.specs.declared.KeepAlive.the-variants.{Default, Icd}
-use Rattle.changes.specs.declared.ChangedAttr.{ChangedAttr}
+use Rattle.entries.specs.declared.ChangedAttr.{ChangedAttr}
 use Rattle.changes.specs.declared.ChangedAttrs.{ChangedAttrs}
 use Rattle.refusal.specs.declared.Refusal.the-variants.{IdLive}
 use Rattle.refusal.specs.Numbers.{numberOf}
 use Rattle.time.specs.Instants.{instant}
 use Rattle.time.specs.Intervals.{backoffSecs, dueAfterSecs, grantedMaxSecs}
-use Rattle.changes.specs.Paths.{entry, wildCluster, wildAttr, allWild}
+use Rattle.entries.specs.Paths.{entry, wildCluster, wildAttr, allWild}
 use Rattle.changes.specs.Logs.{entriesOf, freshLog, noted}
 use Rattle.subscription.specs.declared.Request.{Request}
 use Rattle.subscription.specs.declared.Subscription.{Subscription}

@@ -15,7 +15,7 @@ use Rattle.refusal.specs.declared.Refusal.the-variants.{BadArgument, NotOpen}
 use Rattle.time.specs.declared.KeepAlive.{KeepAlive}
 use Rattle.subscription.specs.declared.Subscription.{Subscription}
 use Rattle.table.specs.declared.Table.{Table}
-use Rattle.changes.specs.declared.Told.the-variants as told
+use Rattle.answers.specs.declared.Told.the-variants as told
 use Rattle.lists.specs.Search.{first}
 use Rattle.lists.specs.Removal.{takeOutNewest}
 use Rattle.time.specs.Instants.{neverReported}

@@ -14,7 +14,7 @@ use lib.Seq.{length-take-le, getD-take}
 use Rattle.time.specs.declared.KeepAlive.the-variants.{Icd}
 use Rattle.subscription.specs.declared.Subscription.{Subscription}
 use Rattle.table.specs.declared.Table.{Table}
-use Rattle.changes.specs.declared.Change.the-variants as change
+use Rattle.answers.specs.declared.Change.the-variants as change
 use Rattle.table.specs.declared.Alive.the-variants as alive
 use Rattle.lists.specs.Search.{leastBy}
 use Rattle.time.specs.Instants.{lastInstant}

@@ -10,7 +10,7 @@ use lib.ListN.{length}
 use Rattle.time.specs.declared.Instant.{Instant}
 use Rattle.time.specs.declared.KeepAlive.{KeepAlive}
 use Rattle.table.specs.declared.Table.{Table}
-use Rattle.changes.specs.declared.Told.the-variants as told
+use Rattle.answers.specs.declared.Told.the-variants as told
 use Rattle.table.specs.declared.Moment.the-variants as moment
 use Rattle.table.specs.declared.Loaded.the-variants as loaded
 use Rattle.lists.specs.Search.{count, leastBy}

@@ -2,14 +2,14 @@
 -- Assumes nothing.
 use mathlib.Core.Option.{none}
 use mathlib.Core.Option.{some as just}
-use Rattle.changes.specs.declared.Change.{Change}
+use Rattle.answers.specs.declared.Change.{Change}
 use Rattle.table.specs.declared.Settled.{Settled}
 use Rattle.table.specs.declared.Alive.{Alive}
 use Rattle.table.specs.declared.Moment.{Moment}
 use Rattle.table.specs.declared.Loaded.{Loaded}
 use Rattle.table.specs.declared.Waking.{Waking}
 use Rattle.table.specs.declared.Woken.{Woken}
-use Rattle.changes.specs.declared.Told.{Told}
+use Rattle.answers.specs.declared.Told.{Told}
 use Rattle.table.specs.declared.Table.{Table}
 use Rattle.table.specs.declared.Completed.{Completed}
 use Rattle.table.specs.declared.Completion.{Completion}
@@ -19,12 +19,12 @@ use Rattle.table.specs.declared.Hearing.{Hearing}
 use Rattle.table.specs.declared.TableNoted.{TableNoted}
 use Rattle.table.specs.declared.HandOut.{HandOut}
 use Rattle.table.specs.declared.Reported.{Reported}
-use Rattle.changes.specs.declared.Change.the-variants as change
+use Rattle.answers.specs.declared.Change.the-variants as change
 use Rattle.table.specs.declared.Alive.the-variants as alive
 use Rattle.table.specs.declared.Moment.the-variants as moment
 use Rattle.table.specs.declared.Loaded.the-variants as loaded
 use Rattle.table.specs.declared.Waking.the-variants as waking
-use Rattle.changes.specs.declared.Told.the-variants as told
+use Rattle.answers.specs.declared.Told.the-variants as told
 use Rattle.table.specs.declared.Completion.the-variants as completion
 use Rattle.table.specs.declared.Admission.the-variants as admission
 use Rattle.table.specs.declared.Hearing.the-variants as hearing

@@ -14,7 +14,7 @@ use Rattle.refusal.specs.declared.Refusal.{Refusal}
 use Rattle.refusal.specs.declared.Refusal.the-variants.{BadArgument, Full, IdLive}
 use Rattle.time.specs.declared.Instant.{Instant}
 use Rattle.time.specs.declared.KeepAlive.{KeepAlive}
-use Rattle.changes.specs.declared.Told.{Told}
+use Rattle.answers.specs.declared.Told.{Told}
 use Rattle.subscription.specs.declared.Request.{Request}
 use Rattle.subscription.specs.declared.Settings.{Settings}
 use Rattle.subscription.specs.declared.Subscription.{Subscription}
@@ -29,8 +29,8 @@ use Rattle.table.specs.declared.Moment.{Moment}
 use Rattle.table.specs.declared.Alive.{Alive}
 use Rattle.table.specs.declared.Loaded.{Loaded}
 use Rattle.table.specs.declared.Waking.the-variants as waking
-use Rattle.changes.specs.declared.Change.the-variants as change
-use Rattle.changes.specs.declared.Told.the-variants as told
+use Rattle.answers.specs.declared.Change.the-variants as change
+use Rattle.answers.specs.declared.Told.the-variants as told
 use Rattle.table.specs.declared.Hearing.the-variants as hearing
 use Rattle.table.specs.declared.HandOut.the-variants as handOut
 use Rattle.table.specs.declared.Verdict.the-variants as verdict

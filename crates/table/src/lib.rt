@@ -17,9 +17,9 @@ ghost use Rattle.table.specs.Views.{freshTable, storedOf, opensOf, place
 ghost use Rattle.table.specs.Tests.{ofFabric, served, struck, passes, measured};
 ghost use Rattle.table.specs.Moves.{withNextId, withReason, withLog, takenOut, storedLast, openedUp, closedAt, sweptOut, emptied};
 ghost use Rattle.table.specs.Calls.{newTable, admitObjections, asVerdict, notAdmitted, addTo, resumeIn, notCompleted, staysAfter, endedAt, completeIn, attributeAt, sendAt, notWoken, cancelsIn, removeIn, clearIn, purgedTable, purgeIn, noteIn, notReported, handOutIn, reportIn, anyAt, nextAt, aliveAt, loadOf, hasAt};
-use changes::Change;
+use answers::Change;
+use answers::Told;
 use changes::ChangedAttrs;
-use changes::Told;
 use refusal::Refusal;
 use subscription::ABANDONED;
 use subscription::Choice;

@@ -6,7 +6,7 @@ use native.Mathlib.Omega.{arith}
 use borrow.Author.Tests.{lt-ltb, le-ltb}
 use borrow.Author.Needs.{needs}
 use Rattle.changes.specs.Logs.{entriesOf}
-use Rattle.changes.specs.Paths.{over}
+use Rattle.entries.specs.Paths.{over}
 use Rattle.changes.proofs.Cases.{placed-found, placed-new}
 use Rattle.changes.proofs.Steps.{found, holds-as, entries-length, refreshed-at}
 use Rattle.lists.proofs.Arrays.{full}

@@ -8,7 +8,7 @@ use lib.Seq.{slice}
 use lib.ListN.{length}
 use Rattle.changes.specs.Notes.{newest}
 use Rattle.changes.specs.Logs.{entriesOf}
-use Rattle.changes.specs.Paths.{holds}
+use Rattle.entries.specs.Paths.{holds}
 use Rattle.changes.proofs.Steps.{newest-hit, newest-miss, newest-done}
 use Rattle.lists.proofs.Arrays.{full}
 use Rattle.changes.proofs.newest_of.Statement.{statement}

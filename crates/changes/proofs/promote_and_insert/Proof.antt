@@ -6,7 +6,7 @@ use Prim.Native.Nat.{_-_, _≤_}
 use native.Mathlib.Omega.{arith}
 use borrow.Author.Needs.{needs}
 use lib.ListN.{length}
-use Rattle.changes.specs.declared.Level.the-variants.{Cluster, Endpoint}
+use Rattle.entries.specs.declared.Level.the-variants.{Cluster, Endpoint}
 use Rattle.changes.specs.Logs.{entriesOf}
 use Rattle.changes.specs.Notes.{placed}
 use Rattle.changes.proofs.Groups.{largest-covers, folded-room}

@@ -7,7 +7,7 @@ use borrow.Author.Tests.{lt-ltb, le-ltb}
 use borrow.Author.Needs.{needs}
 use lib.ListN.{length}
 use Rattle.changes.specs.Logs.{entriesOf}
-use Rattle.changes.specs.Paths.{over, under}
+use Rattle.entries.specs.Paths.{over, under}
 use Rattle.lists.specs.Removal.{sweep}
 use Rattle.changes.proofs.Cases.{entered-found, entered-new, inserted-room, inserted-full}
 use Rattle.changes.proofs.Steps.{found, holds-as, entries-length, refreshed-at}

@@ -6,7 +6,7 @@ use native.Mathlib.Omega.{arith}
 use borrow.Author.Needs.{needs}
 use lib.ListN.{length}
 use Rattle.changes.specs.Logs.{entriesOf}
-use Rattle.changes.specs.Paths.{blank, holds}
+use Rattle.entries.specs.Paths.{blank, holds}
 use Rattle.lists.specs.Removal.{sweep, scanned}
 use Rattle.changes.proofs.Steps.{held}
 use Rattle.lists.proofs.Arrays.{full, scan-start, scan-out, scan-kept, scan-done}

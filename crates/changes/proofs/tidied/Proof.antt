@@ -7,7 +7,7 @@ use native.Mathlib.Omega.{arith}
 use borrow.Author.Needs.{needs}
 use lib.ListN.{length, take, replicate}
 use Rattle.changes.specs.Logs.{entriesOf}
-use Rattle.changes.specs.Paths.{blank}
+use Rattle.entries.specs.Paths.{blank}
 use Rattle.changes.proofs.Steps.{entries-length, blanked, blank-start, blank-end}
 use Rattle.lists.proofs.Arrays.{full}
 use Rattle.changes.proofs.tidied.Statement.{statement}

@@ -4,9 +4,9 @@ use mathlib.Core.Bool.{true}
 use mathlib.Core.Path.{_≡_, sym, ap, _∙_}
 use Prim.Native.Nat.{_-_}
 use borrow.Author.Needs.{needs}
-use Rattle.changes.specs.declared.Told.the-variants as told
+use Rattle.answers.specs.declared.Told.the-variants as told
 use Rattle.changes.specs.Logs.{entriesOf, kept, pathTold}
-use Rattle.changes.specs.Paths.{since, entry}
+use Rattle.entries.specs.Paths.{since, entry}
 use Rattle.changes.proofs.Cases.{kept-fits}
 use Rattle.changes.proofs.Steps.{found, entries-length}
 use Rattle.lists.proofs.Arrays.{full}

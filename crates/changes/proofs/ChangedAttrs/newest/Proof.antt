@@ -2,7 +2,7 @@
 -- Assumes nothing.
 use mathlib.Core.Path.{sym, ap, _∙_}
 use borrow.Author.Needs.{needs}
-use Rattle.changes.specs.declared.Mark.the-variants as mark
+use Rattle.answers.specs.declared.Mark.the-variants as mark
 use Rattle.changes.specs.Logs.{newestMark}
 use Rattle.changes.proofs.Cases.{kept-fits}
 use Rattle.changes.proofs.ChangedAttrs.newest.Statement.{statement}

@@ -6,7 +6,7 @@ use Prim.Native.Nat.{_-_, _<_}
 use native.Mathlib.Omega.{arith}
 use borrow.Author.Needs.{needs}
 use lib.Arith.{lt-of-le-ne}
-use Rattle.changes.specs.declared.Mark.the-variants as mark
+use Rattle.answers.specs.declared.Mark.the-variants as mark
 use Rattle.changes.specs.Logs.{kept, marked}
 use Rattle.changes.proofs.Cases.{kept-next}
 use Rattle.changes.proofs.ChangedAttrs.watermark.Statement.{statement}

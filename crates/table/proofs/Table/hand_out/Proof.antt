@@ -8,7 +8,7 @@ use borrow.Author.Needs.{needs}
 use Rattle.table.specs.declared.Table.{Table}
 use Rattle.table.specs.Calls.{firstReady, handedOut, handOutIn}
 use Rattle.table.specs.Moves.{takenOut}
-use Rattle.changes.specs.Numbers.{markValue}
+use Rattle.answers.specs.Numbers.{markValue}
 use Rattle.changes.specs.Logs.{watermarkOf, newestOf}
 use Rattle.changes.proofs.Promises.{mark-answer, newest-answer}
 use Rattle.table.proofs.Table.hand_out.Statement.{statement}

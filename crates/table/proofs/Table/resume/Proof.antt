@@ -8,7 +8,7 @@ use borrow.Author.Needs.{needs}
 use lib.ListN.{length}
 use Rattle.table.specs.Calls.{admitObjections, resumeIn}
 use Rattle.rules.specs.Machine.{firstOf}
-use Rattle.changes.specs.Numbers.{markValue}
+use Rattle.answers.specs.Numbers.{markValue}
 use Rattle.changes.specs.Logs.{watermarkOf}
 use Rattle.rules.specs.Calls as call
 use Rattle.table.proofs.Refusing.{kept-counts, kept-log, past-kept, unkept, resume-same, verdict-clear, verdict-why, room-left}

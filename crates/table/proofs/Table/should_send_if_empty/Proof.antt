@@ -10,7 +10,7 @@ use borrow.Author.Needs.{needs}
 use lib.ListN.{length}
 use Rattle.refusal.specs.declared.Refusal.the-variants.{NotOpen}
 use Rattle.table.specs.declared.Table.{Table}
-use Rattle.changes.specs.declared.Told.the-variants as told
+use Rattle.answers.specs.declared.Told.the-variants as told
 use Rattle.table.specs.Calls.{openAt, sendAt}
 use Rattle.table.specs.Views.{view}
 use Rattle.rules.specs.Machine.{firstOf}

@@ -2,14 +2,14 @@
 -- Assumes nothing.
 use mathlib.Core.Bool.{Bool, false}
 use Prim.Native.Nat.{ℕ}
-use Rattle.changes.specs.declared.NoteAnswer.{NoteAnswer}
-use Rattle.changes.specs.declared.Change.{Change}
-use Rattle.changes.specs.declared.Told.{Told}
-use Rattle.changes.specs.declared.Mark.{Mark}
-use Rattle.changes.specs.declared.NoteAnswer.the-variants as note
-use Rattle.changes.specs.declared.Change.the-variants as change
-use Rattle.changes.specs.declared.Told.the-variants as told
-use Rattle.changes.specs.declared.Mark.the-variants as mark
+use Rattle.answers.specs.declared.NoteAnswer.{NoteAnswer}
+use Rattle.answers.specs.declared.Change.{Change}
+use Rattle.answers.specs.declared.Told.{Told}
+use Rattle.answers.specs.declared.Mark.{Mark}
+use Rattle.answers.specs.declared.NoteAnswer.the-variants as note
+use Rattle.answers.specs.declared.Change.the-variants as change
+use Rattle.answers.specs.declared.Told.the-variants as told
+use Rattle.answers.specs.declared.Mark.the-variants as mark
 use Rattle.lists.specs.Search.{one}
 use Rattle.refusal.specs.Numbers.{numberOf}
 

@@ -1,13 +1,14 @@
--- Covering is an order: each entry covers itself, and what covers a coverer covers. To match a path is to cover it.
+-- Covering is an order: each entry covers itself, and what covers a coverer covers. To match a path is to cover it. Floors above cite these
+-- laws and open no definition of this crate.
 -- Assumes nothing.
 use mathlib.Core.Path.{_≡_, refl, sym, _∙_}
-use mathlib.Core.Bool.{true}
+use mathlib.Core.Bool.{true, _&&_}
 use mathlib.Core.Logic.{_⊎_, ⊎-elim}
 use Prim.Native.Nat.{ℕ}
 use borrow.Author.Tests.{eqb-true, eqb-false, eq-eqb, ne-eqb}
-use lib.Dec.{eqb}
-use Rattle.changes.specs.declared.ChangedAttr.{ChangedAttr}
-use Rattle.changes.specs.Paths.{allWild, wildEndpoint, wildCluster, wildAttr, fieldCovers, fieldMatches, covers, matches}
+use lib.Dec.{eqb, leb, ltb}
+use Rattle.entries.specs.declared.ChangedAttr.{ChangedAttr}
+use Rattle.entries.specs.Paths.{withIdentity, allWild, wildEndpoint, wildCluster, wildAttr, fieldCovers, fieldMatches, covers, matches, over, under, upTo, above, since}
 use Rattle.lists.proofs.Bools.{split, and-both, and-true, or-either, or-left}
 
 module _ (wild : ℕ) where
@@ -67,3 +68,32 @@ covers-trans a b c h k = sym (matches-covers a c) ∙ matches-trans a b c (match
 pub wild-covers : (k : ℕ) (q : ChangedAttr) → covers (allWild k) q ≡ true
 unfolding covers fieldCovers
 wild-covers k q = refl
+
+-- ---- what a scan is after, as tests on the entry
+
+module _ (n x : ChangedAttr) where
+  pub over-covers : over n x ≡ covers x n
+  unfolding over
+  over-covers = refl
+
+  pub under-covers : under n x ≡ covers n x
+  unfolding under
+  under-covers = refl
+
+  -- a path is changed since an identity by the entries that cover it and are newer
+  pub since-covers : since n x ≡ (ltb (n .identity) (x .identity) && covers x n)
+  unfolding since
+  since-covers = rw (matches-covers x n)
+
+  -- the identity is no part of the path
+  pub renewed-covers : (k : ℕ) → covers (withIdentity k n) x ≡ covers n x
+  unfolding covers
+  renewed-covers k = refl
+
+pub upTo-at : (t : ℕ) (x : ChangedAttr) → upTo t x ≡ leb (x .identity) t
+unfolding upTo
+upTo-at t x = refl
+
+pub above-at : (s : ℕ) (x : ChangedAttr) → above s x ≡ ltb s (x .identity)
+unfolding above
+above-at s x = refl

@@ -2,9 +2,9 @@
 -- Assumes nothing.
 use mathlib.Core.Path.{sym, _∙_}
 use borrow.Author.Needs.{needs}
-use Rattle.changes.specs.Paths.{covers}
-use Rattle.changes.proofs.ChangedAttr.covers.Statement.{statement}
-use Rattle.changes.proofs.ChangedAttr.covers.Tie as tie
+use Rattle.entries.specs.Paths.{covers}
+use Rattle.entries.proofs.ChangedAttr.covers.Statement.{statement}
+use Rattle.entries.proofs.ChangedAttr.covers.Tie as tie
 
 cast-field-covers : tie.Need-cast-field-covers
 cast-field-covers c = search needs

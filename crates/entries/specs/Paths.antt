@@ -1,11 +1,16 @@
--- Entries of the change log and when one covers another, as document 01 has it, "Change log". What a log does with them is not said here.
+-- Entries of the change log, when one covers another, and the coarser one that can stand for it, as document 01 has it, "Change log". What a
+-- log does with them is not said here.
 -- Assumes nothing.
-use mathlib.Core.Bool.{Bool, not, _&&_, _||_}
+use mathlib.Core.Bool.{Bool, not, cond, _&&_, _||_}
 use Prim.Native.Nat.{ℕ}
 use lib.Dec.{eqb, leb, ltb}
-use Rattle.changes.specs.declared.ChangedAttr.{ChangedAttr}
-use Rattle.changes.specs.declared.Rule.{Rule}
-use Rattle.changes.specs.declared.Rule.the-variants.{Over, Under, UpTo, Above, Since}
+use Rattle.entries.specs.declared.ChangedAttr.{ChangedAttr}
+use Rattle.entries.specs.declared.Rule.{Rule}
+use Rattle.entries.specs.declared.Rule.the-variants.{Over, Under, UpTo, Above, Since}
+use Rattle.entries.specs.declared.Level.{Level}
+use Rattle.entries.specs.declared.Level.the-variants.{Cluster, Endpoint}
+use Rattle.entries.specs.declared.Coarser.{Coarser}
+use Rattle.entries.specs.declared.Coarser.the-variants.{To, Nothing}
 
 -- "endpoint, cluster, attribute, identity"
 abbrev pub entry : ℕ → ℕ → ℕ → ℕ → ChangedAttr
@@ -80,3 +85,9 @@ holds (Under e) = under e
 holds (UpTo t) = upTo t
 holds (Above s) = above s
 holds (Since path) = since path
+
+-- "level 1 makes a candidate of endpoint and cluster from each entry where neither is wild; level 2 of endpoint alone where it isn't wild."
+unfoldable pub candidate : Level → ChangedAttr → Coarser
+candidate Cluster x =
+    cond (eqb (x .endpoint) wildEndpoint || eqb (x .cluster) wildCluster) Nothing (To (entry (x .endpoint) (x .cluster) wildAttr 0))
+candidate Endpoint x = cond (eqb (x .endpoint) wildEndpoint) Nothing (To (entry (x .endpoint) wildCluster wildAttr 0))

@@ -1,9 +1,9 @@
 -- `field_covers` meets its contract: each return is a case of the definition, by the tests that led to it.
 -- Assumes nothing.
 use borrow.Author.Tests.{eq-eqb, ne-eqb}
-use Rattle.changes.specs.Paths.{fieldCovers}
-use Rattle.changes.proofs.field_covers.Statement.{statement}
-use Rattle.changes.proofs.field_covers.Tie as tie
+use Rattle.entries.specs.Paths.{fieldCovers}
+use Rattle.entries.proofs.field_covers.Statement.{statement}
+use Rattle.entries.proofs.field_covers.Tie as tie
 
 returns : tie.Need-returns
 unfolding fieldCovers

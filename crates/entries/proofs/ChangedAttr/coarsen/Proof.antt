@@ -3,14 +3,13 @@
 use mathlib.Core.Path.{_≡_}
 use borrow.Author.Tests.{eq-eqb, ne-eqb}
 use borrow.Author.Needs.{needs}
-use Rattle.changes.specs.declared.Coarser.the-variants.{Nothing}
-use Rattle.changes.specs.declared.ChangedAttr.{ChangedAttr}
-use Rattle.changes.specs.declared.Level.the-variants.{Cluster, Endpoint}
-use Rattle.changes.specs.declared.Level.{Level}
-use Rattle.changes.specs.Notes.{candidate}
-use Rattle.changes.specs.Paths.{wildEndpoint}
-use Rattle.changes.proofs.ChangedAttr.coarsen.Statement.{statement}
-use Rattle.changes.proofs.ChangedAttr.coarsen.Tie as tie
+use Rattle.entries.specs.declared.Coarser.the-variants.{Nothing}
+use Rattle.entries.specs.declared.ChangedAttr.{ChangedAttr}
+use Rattle.entries.specs.declared.Level.the-variants.{Cluster, Endpoint}
+use Rattle.entries.specs.declared.Level.{Level}
+use Rattle.entries.specs.Paths.{candidate, wildEndpoint}
+use Rattle.entries.proofs.ChangedAttr.coarsen.Statement.{statement}
+use Rattle.entries.proofs.ChangedAttr.coarsen.Tie as tie
 
 -- at each level an entry with a wild endpoint has no candidate
 wild-endpoint : (level : Level) (x : ChangedAttr) → x .endpoint ≡ wildEndpoint → Nothing ≡ candidate level x

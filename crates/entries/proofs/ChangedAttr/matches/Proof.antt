@@ -2,9 +2,9 @@
 -- Assumes nothing.
 use mathlib.Core.Path.{sym, _∙_}
 use borrow.Author.Needs.{needs}
-use Rattle.changes.specs.Paths.{matches}
-use Rattle.changes.proofs.ChangedAttr.matches.Statement.{statement}
-use Rattle.changes.proofs.ChangedAttr.matches.Tie as tie
+use Rattle.entries.specs.Paths.{matches}
+use Rattle.entries.proofs.ChangedAttr.matches.Statement.{statement}
+use Rattle.entries.proofs.ChangedAttr.matches.Tie as tie
 
 cast-field-matches : tie.Need-cast-field-matches
 cast-field-matches c = search needs

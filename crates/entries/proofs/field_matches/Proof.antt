@@ -1,9 +1,9 @@
 -- `field_matches` meets its contract: each return is a case of the definition, by the tests that led to it.
 -- Assumes nothing.
 use borrow.Author.Tests.{eq-eqb, ne-eqb}
-use Rattle.changes.specs.Paths.{fieldMatches}
-use Rattle.changes.proofs.field_matches.Statement.{statement}
-use Rattle.changes.proofs.field_matches.Tie as tie
+use Rattle.entries.specs.Paths.{fieldMatches}
+use Rattle.entries.proofs.field_matches.Statement.{statement}
+use Rattle.entries.proofs.field_matches.Tie as tie
 
 returns : tie.Need-returns
 unfolding fieldMatches
