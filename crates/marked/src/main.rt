@@ -1,10 +1,26 @@
-// Document 01's marked examples P1 to P10 as the compiled code answers them, a line each. That the definitions give these values is proved in
+// Document 01's marked examples P1 to P12 as the compiled code answers them, a line each. That the definitions give these values is proved in
 // crate rules; here the code itself is run, since the proofs do not cover the compiler's back end.
 ghost use Prim.Native.Nat.{_<_};
 use changes::ChangedAttrs;
 use entries::ChangedAttr;
 use libc::STDOUT_FILENO;
+use subscription::Request;
+use subscription::SENT;
+use subscription::Settings;
+use subscription::Subscription;
+use table::Admission;
+use table::Admitted;
+use table::Table;
+use time::Instant;
 use time::KeepAlive;
+
+const REQUEST: Request = Request {
+    peer: 7,
+    shortest: 1,
+    longest: 60,
+    rx: 0,
+    fabric: 1,
+};
 
 fn main() {
     value(b"P1", time::retry_backoff_secs(1, 60));
@@ -17,6 +33,8 @@ fn main() {
     log(b"P8", sixteen(Row::Attributes).note(2, 6, 0).log);
     log(b"P9", sixteen(Row::Clusters).note(1, 17, 0).log);
     log(b"P10", sixteen(Row::Endpoints).note(17, 6, 0).log);
+    last_id();
+    swap();
 }
 
 // Which field tells the sixteen notes of an example apart.
@@ -70,6 +88,68 @@ fn entry(x: ChangedAttr) {
     number(x.cluster as u64);
     number(x.attr as u64);
     number(x.identity);
+}
+
+// P11: after the resumed id the last one of all is given, and stays the next one: it is live, so the third is refused.
+fn last_id() {
+    let resumed = Table::new(80).table.resume(4294967294, REQUEST, 0);
+    let added = resumed.table.add(REQUEST, 0, Instant::at(1000));
+    let again = added.table.add(REQUEST, 0, Instant::at(1000));
+    io::write_all(STDOUT_FILENO, b"P11");
+    admission(resumed);
+    admission(added);
+    admission(again);
+    io::write_all(STDOUT_FILENO, b"\n");
+}
+
+// P12: A, B and C have the ids 1, 2 and 3; who is stored, in order, before A is handed out and after it is kept.
+fn swap() {
+    let before = Table::new(80)
+        .table
+        .resume(1, REQUEST, 0)
+        .table
+        .resume(2, REQUEST, 0)
+        .table
+        .resume(3, REQUEST, 0)
+        .table;
+    let at = Settings {
+        now: Instant::at(1000),
+        events: 0,
+        kind: KeepAlive::Default,
+        all: false,
+    };
+    let after = before.report(at).table.complete(1, SENT).table;
+    io::write_all(STDOUT_FILENO, b"P12");
+    stored(before);
+    stored(after);
+    io::write_all(STDOUT_FILENO, b"\n");
+}
+
+// The id that was given, or the number of the refusal.
+fn admission(admitted: Admitted) {
+    let answer = admitted.answer;
+    match answer {
+        Admission::Id(id) => number(id as u64),
+        Admission::Refused(why) => {
+            io::write_all(STDOUT_FILENO, b" refused");
+            number(why.number() as u64);
+        }
+    }
+}
+
+// The ids of the stored ones, in order.
+fn stored(table: Table) {
+    io::write_all(STDOUT_FILENO, b" :");
+    let n = table.stored;
+    for i in 0..80usize {
+        if i < n {
+            id(table.places[i]);
+        }
+    }
+}
+
+fn id(x: Subscription) {
+    number(x.id as u64);
 }
 
 fn number(n: u64) {
