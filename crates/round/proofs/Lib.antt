@@ -1,2 +1,5 @@
 pub mod Steps
 pub mod Refusing
+pub mod Agreeing
+pub mod RoundAgrees
+pub mod Lasting

@@ -20,7 +20,7 @@ use Rattle.rules.specs.Machine.{badOutcome, firstOf}
 use Rattle.rules.specs.Numbers.{refusalOf}
 use Rattle.table.specs.Views.{view, kept, refusalAt}
 use Rattle.table.specs.Calls.{reportIn}
-use Rattle.table.specs.Agreement.{handOutSays}
+use Rattle.table.specs.Agreement.{handOutAnswer}
 use Rattle.round.specs.Rounds.{badSlices, refuses, isShut}
 use Rattle.rules.specs.Calls as call
 use Rattle.lists.proofs.Bools.{split, or-neither}
@@ -33,7 +33,7 @@ present : Option Refusal → Bool
 present none = false
 present (just why) = true
 
-refuses-is : (a : HandOut) → refuses a ≡ present (refusalOf (handOutSays a))
+refuses-is : (a : HandOut) → refuses a ≡ present (refusalOf (handOutAnswer a))
 unfolding present
 refuses-is (handOut.To x) = refl
 refuses-is handOut.Nothing = refl

@@ -72,8 +72,8 @@ notRounded t why = record { answer = rounding.Refused why; table = t }
 
 -- "It answers the number of hand-outs it made, and whether nothing stored is reportable then. Ids beyond that number stay."
 abbrev pub made : Settings → Served × List ℕ → Rounded × List ℕ
-made at (s, ids) =
-    (record { answer = rounding.Made (record { handouts = s .handouts; silent = isSilent (s .table) at }); table = s .table }, ids)
+made at r =
+    (record { answer = rounding.Made (record { handouts = r .0 .handouts; silent = isSilent (r .0 .table) at }); table = r .0 .table }, r .1)
 
 -- "Round .. reports and completes at one instant": the answer, the table and the ids after it
 unfoldable pub roundOf : Table → Settings → List ℕ → List ℕ → Rounded × List ℕ

@@ -21,10 +21,11 @@ use Rattle.lists.specs.Removal.{sweep, takeOutNewest, takeOut}
 use Rattle.time.specs.Instants.{lastInstant, neverReported}
 use Rattle.subscription.specs.When.{dueOf, nextOf, isDue, reportable}
 use Rattle.subscription.specs.Choices.{chosen}
-use Rattle.rules.specs.Machine.{withLog, leastSeen, purgedIn, keepAliveIn, nextInstantIn, statisticsIn, hasSubscriptionIn, cancels, removed, clearedIn, withCancel, openWith, stays, storedAfter, completedIn, attributeIn, sendIfEmptyIn, anyReportableIn, withNext, nextIdAfter, added, resumedTo, notedIn, outcome, withOnes, openedIn, nextUp, reported, act, ready, objections, firstOf, refusal, step, Outcome, Turn, turned, roundFrom, roundIn}
+use Rattle.rules.specs.Machine.{withLog, leastSeen, purgedIn, keepAliveIn, nextInstantIn, statisticsIn, hasSubscriptionIn, cancels, removed, clearedIn, withCancel, openWith, stays, storedAfter, completedIn, attributeIn, sendIfEmptyIn, anyReportableIn, withNext, nextIdAfter, added, resumedTo, notedIn, outcome, withOnes, openedIn, nextUp, reported, act, ready, objections, firstOf, refusal, step, Outcome, Turn, turned, roundFrom, roundIn, run, answers}
 use Rattle.changes.specs.Logs.{changedSince, watermarkOf, noted, purged, cleared, anySince}
 use Rattle.subscription.specs.Life.{failed, priming, resumed}
 use Rattle.rules.specs.States.{hasId, State, fresh, counted, capacityFits, isReport, reportOpen}
+use Rattle.rules.specs.Calls.{Op}
 use Rattle.rules.specs.Calls as call
 
 -- ---- what a report hands out, and what it leaves
@@ -180,3 +181,20 @@ pub act-round : (s : State) (at : Settings) (os ids : List ℕ)
     → act (call.round at os ids) s ≡ roundEnds at (roundFrom at os (record { handOuts = 0; ids = ids; state = s }))
 unfolding act roundIn
 act-round s at os ids = refl
+
+-- a history, call by call
+pub run-none : (s : State) → run [] s ≡ s
+unfolding run
+run-none s = refl
+
+pub run-more : (op : Op) (ops : List Op) (s : State) → run (op ∷ ops) s ≡ run ops (step op s .state)
+unfolding run
+run-more op ops s = refl
+
+pub answers-none : (s : State) → answers [] s ≡ []
+unfolding answers
+answers-none s = refl
+
+pub answers-more : (op : Op) (ops : List Op) (s : State) → answers (op ∷ ops) s ≡ (step op s .answer ∷ answers ops (step op s .state))
+unfolding answers
+answers-more op ops s = refl

@@ -29,13 +29,20 @@ unrefused : (op : Op) (s : State) → wellKept s ≡ true → firstOf (objection
 unfolding refusal firstOf
 unrefused op s h e = rw (h, and-false (takesState op), firstOf) e
 
+-- a report with nobody reportable tells so and alters nothing
+pub report-silent : (at : Settings) (s : State) → Sound s → reportOpen s ≡ false → some (ready at s) (s .stored) ≡ false
+    → step (call.report at) s ≡ outcome call.nothing s
+unfolding objections firstOf act reported
+report-silent at s h shut idle =
+    unrefused-acts (call.report at) s (unrefused (call.report at) s (sound-kept s h) (rw (shut, firstOf))) ∙ rw (idle, reported)
+
 module _ (at : Settings) (o : ℕ) (s : State) (h : Sound s) (shut : reportOpen s ≡ false) (found : some (ready at s) (s .stored) ≡ true) where
-  report-step : step (call.report at) s ≡ outcome (call.handed (nextUp at s .id) (nextUp at s .rx)) (reported at s .state)
+  pub report-step : step (call.report at) s ≡ outcome (call.handed (nextUp at s .id) (nextUp at s .rx)) (reported at s .state)
   unfolding objections firstOf act reported
   report-step =
       unrefused-acts (call.report at) s (unrefused (call.report at) s (sound-kept s h) (rw (shut, firstOf))) ∙ rw (found, reported)
 
-  complete-step : badOutcome o ≡ false
+  pub complete-step : badOutcome o ≡ false
       → step (call.complete (nextUp at s .id) o) (reported at s .state) ≡ completedIn (nextUp at s .id) o (reported at s .state)
   unfolding objections firstOf act
   complete-step good =

@@ -4,6 +4,7 @@ pub mod Refusing
 pub mod Sweeping
 pub mod Viewing
 pub mod Agreeing
+pub mod NewAgrees
 pub mod ReportAgrees
 pub mod AdmissionAgrees
 pub mod CompletionAgrees

@@ -35,71 +35,95 @@ use Rattle.table.specs.Views.{view}
 use Rattle.rules.specs.Calls as call
 
 -- of a report
-abbrev pub handOutSays : HandOut → Answer
-handOutSays (handOut.To x) = call.handed (x .id) (x .rx)
-handOutSays handOut.Nothing = call.nothing
-handOutSays (handOut.Refused why) = call.refused why
+abbrev pub handOutAnswer : HandOut → Answer
+handOutAnswer (handOut.To x) = call.handed (x .id) (x .rx)
+handOutAnswer handOut.Nothing = call.nothing
+handOutAnswer (handOut.Refused why) = call.refused why
 
 abbrev pub reportSays : Reported → Outcome
-reportSays r = outcome (handOutSays (r .answer)) (view (r .table))
+reportSays r = outcome (handOutAnswer (r .answer)) (view (r .table))
 
 -- of an admission
-abbrev pub admissionSays : Admission → Answer
-admissionSays (admission.Id id) = call.number id
-admissionSays (admission.Refused why) = call.refused why
+abbrev pub admissionAnswer : Admission → Answer
+admissionAnswer (admission.Id id) = call.number id
+admissionAnswer (admission.Refused why) = call.refused why
 
 abbrev pub admittedSays : Admitted → Outcome
-admittedSays r = outcome (admissionSays (r .answer)) (view (r .table))
+admittedSays r = outcome (admissionAnswer (r .answer)) (view (r .table))
 
 -- of a note
-abbrev pub hearingSays : Hearing → Answer
-hearingSays (hearing.Entered x) = call.heard (x .identity) (x .wakes)
-hearingSays (hearing.Refused why) = call.refused why
+abbrev pub hearingAnswer : Hearing → Answer
+hearingAnswer (hearing.Entered x) = call.heard (x .identity) (x .wakes)
+hearingAnswer (hearing.Refused why) = call.refused why
 
 abbrev pub noteSays : TableNoted → Outcome
-noteSays r = outcome (hearingSays (r .answer)) (view (r .table))
+noteSays r = outcome (hearingAnswer (r .answer)) (view (r .table))
 
 -- of a completion
-abbrev pub completionSays : Completion → Answer
-completionSays (completion.Ended x) = call.completed (x .kept) (x .failed)
-completionSays (completion.Refused why) = call.refused why
+abbrev pub completionAnswer : Completion → Answer
+completionAnswer (completion.Ended x) = call.completed (x .kept) (x .failed)
+completionAnswer (completion.Refused why) = call.refused why
 
 abbrev pub completedSays : Completed → Outcome
-completedSays r = outcome (completionSays (r .answer)) (view (r .table))
+completedSays r = outcome (completionAnswer (r .answer)) (view (r .table))
 
 -- of a question, which leaves the table as it is
+abbrev pub toldAnswer : Told → Answer
+toldAnswer (told.Is b) = call.yesNo b
+toldAnswer (told.Refused why) = call.refused why
+
 abbrev pub toldSays : Table → Told → Outcome
-toldSays t (told.Is b) = outcome (call.yesNo b) (view t)
-toldSays t (told.Refused why) = outcome (call.refused why) (view t)
+toldSays t a = outcome (toldAnswer a) (view t)
 
 -- of the next instant
+abbrev pub momentAnswer : Moment → Answer
+momentAnswer (moment.At i) = call.instant i
+momentAnswer (moment.Refused why) = call.refused why
+
 abbrev pub momentSays : Table → Moment → Outcome
-momentSays t (moment.At i) = outcome (call.instant i) (view t)
-momentSays t (moment.Refused why) = outcome (call.refused why) (view t)
+momentSays t a = outcome (momentAnswer a) (view t)
 
 -- of the statistics
+abbrev pub loadAnswer : Loaded → Answer
+loadAnswer (loaded.Is x) = call.stats (x .places) (x .fabric) (x .established)
+loadAnswer (loaded.Refused why) = call.refused why
+
 abbrev pub loadSays : Table → Loaded → Outcome
-loadSays t (loaded.Is x) = outcome (call.stats (x .places) (x .fabric) (x .established)) (view t)
-loadSays t (loaded.Refused why) = outcome (call.refused why) (view t)
+loadSays t a = outcome (loadAnswer a) (view t)
 
 -- of a removal and of clearing: does it wake
-abbrev pub wakingSays : Waking → Answer
-wakingSays (waking.Wakes b) = call.yesNo b
-wakingSays (waking.Refused why) = call.refused why
+abbrev pub wakingAnswer : Waking → Answer
+wakingAnswer (waking.Wakes b) = call.yesNo b
+wakingAnswer (waking.Refused why) = call.refused why
 
 abbrev pub wokenSays : Woken → Outcome
-wokenSays r = outcome (wakingSays (r .answer)) (view (r .table))
+wokenSays r = outcome (wakingAnswer (r .answer)) (view (r .table))
 
 -- of a purge
-abbrev pub changeSays : Change → Answer
-changeSays change.Done = call.done
-changeSays (change.Refused why) = call.refused why
+abbrev pub changeAnswer : Change → Answer
+changeAnswer change.Done = call.done
+changeAnswer (change.Refused why) = call.refused why
 
 abbrev pub settledSays : Settled → Outcome
-settledSays r = outcome (changeSays (r .answer)) (view (r .table))
+settledSays r = outcome (changeAnswer (r .answer)) (view (r .table))
 
 -- of the next keep-alive
+abbrev pub aliveAnswer : Alive → Answer
+aliveAnswer (alive.At i) = call.keepAlive (just i)
+aliveAnswer alive.Never = call.keepAlive none
+aliveAnswer (alive.Refused why) = call.refused why
+
 abbrev pub aliveSays : Table → Alive → Outcome
-aliveSays t (alive.At i) = outcome (call.keepAlive (just i)) (view t)
-aliveSays t alive.Never = outcome (call.keepAlive none) (view t)
-aliveSays t (alive.Refused why) = outcome (call.refused why) (view t)
+aliveSays t a = outcome (aliveAnswer a) (view t)
+
+-- of a new table in place of another: "a refused "new" makes none", so that the other stays
+abbrev pub newAnswer : Change → Table → Answer
+newAnswer change.Done u = call.number (u .capacity)
+newAnswer (change.Refused why) u = call.refused why
+
+abbrev pub newLeaves : Change → Table → Table → Table
+newLeaves change.Done t u = u
+newLeaves (change.Refused why) t u = t
+
+abbrev pub newSays : Table → Settled → Outcome
+newSays t r = outcome (newAnswer (r .answer) (r .table)) (view (newLeaves (r .answer) t (r .table)))
