@@ -1,6 +1,6 @@
-// Refusal 7 as the compiled code gives it. Every call of the table is handed states with one clause of "Well kept" broken, then well-kept
-// ones, with and without rubbish where nothing is held. A line says the state, the call, its code, its answer where it acts, and, where a
-// table comes back, whether it is the one given. What calls answer in general is proved in crate table; here the code itself is run.
+// Refusal 7 as the compiled code gives it. Every call that takes a table is handed states with one clause of "Well kept" broken, then
+// well-kept ones, with and without rubbish where nothing is held. A line says the state, the call, its code, its answer where it acts, and,
+// where a table comes back, whether it is the one given. What the calls answer in general is proved below; here the code itself is run.
 ghost use mathlib.Core.Path.{_≡_};
 ghost use mathlib.Core.Bool.{true};
 ghost use Prim.Native.Nat.{_<_};
@@ -10,6 +10,7 @@ use changes::ChangedAttrs;
 use entries::ChangedAttr;
 use libc::STDOUT_FILENO;
 use refusal::Refusal;
+use round::Rounding;
 use subscription::Choice;
 use subscription::Request;
 use subscription::SENT;
@@ -227,6 +228,8 @@ fn calls(state: &[u8], t: Table, id: u32) {
     woken(t, t.clear());
     line(state, b"purge");
     settled(t, t.purge_reported_changes());
+    line(state, b"round");
+    rounded(t);
     questions(state, t, id);
 }
 
@@ -318,6 +321,25 @@ fn settled(given: Table, r: Settled) {
     back(given, r.table);
 }
 
+// How many a round of two outcomes handed out, and whether nothing is reportable then; behind the colon the ids, which were 77.
+fn rounded(given: Table) {
+    let outcomes = [SENT; 2];
+    let mut ids = [77u32; 2];
+    let r = round::round(given, due(), &outcomes, &mut ids);
+    let answer = r.answer;
+    match answer {
+        Rounding::Made(x) => {
+            acted(x.handouts as u64);
+            number(flag(x.silent));
+        }
+        Rounding::Refused(why) => refused(why),
+    }
+    word(b" :");
+    number(wide(ids[0]));
+    number(wide(ids[1]));
+    back(given, r.table);
+}
+
 fn told(answer: Told) {
     match answer {
         Told::Is(yes) => acted(flag(yes)),
@@ -381,6 +403,10 @@ fn back(given: Table, table: Table) {
 
 fn flag(yes: bool) -> u64 {
     if yes { 1 } else { 0 }
+}
+
+fn wide(id: u32) -> u64 {
+    id as u64
 }
 
 fn number(n: u64) {
