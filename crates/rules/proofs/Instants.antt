@@ -15,15 +15,17 @@ use Rattle.lists.proofs.Orders.{count-nil, none-count}
 use Rattle.time.specs.declared.Instant.{Instant}
 use Rattle.time.specs.declared.KeepAlive.{KeepAlive}
 use Rattle.time.specs.Instants.{lastInstant}
+use Rattle.changes.specs.Logs.{watermarkOf}
 use Rattle.subscription.specs.declared.Subscription.{Subscription}
 use Rattle.subscription.specs.Life.{priming, resumed, closed}
 use Rattle.subscription.proofs.Laws.{priming-retry, resumed-retry, opened-retry, closed-retry}
 use Rattle.rules.specs.States.{State, fresh}
+use Rattle.rules.specs.Calls as call
 use Rattle.rules.specs.Calls.{Op}
 use Rattle.rules.specs.Histories.{lateRetry, retriesFit}
-use Rattle.rules.specs.Machine.{nextInstantIn, anyReportableIn, run}
+use Rattle.rules.specs.Machine.{nextUp, openWith, nextInstantIn, anyReportableIn, run}
 use Rattle.rules.proofs.Least.{before-last, with-stored}
-use Rattle.rules.proofs.Nobody.{nobody-ever}
+use Rattle.rules.proofs.Nobody.{Spares, nobody-ever}
 
 -- The next instant has come exactly where something is reportable, before the last instant, and at it too if something is stored.
 pub any-is-next : (now : Instant) (events : ℕ) (kind : KeepAlive) (s : State) → retriesFit s ≡ true
@@ -35,15 +37,30 @@ any-is-next now events kind s fit (inr h) = with-stored now events kind s h (not
 fitting : (x : Subscription) → x .retry .ms ≤ lastInstant .ms → lateRetry x ≡ false
 fitting x h = le-ltb (lastInstant .ms) (x .retry .ms) h
 
+-- nobody is admitted, handed out or stored again with a retry past the last instant
+none-late : (op : Op) (s : State) → Spares lateRetry lateRetry op s
+none-late (call.new capacity) s = tt
+none-late (call.add request events now) s = λ _. fitting (priming request (s .next) _ events now) (omega (arith, priming-retry request (s .next) (watermarkOf (s .log)) events now))
+none-late (call.resume id request events) s = λ _. fitting (resumed request id _ events) (omega (arith, resumed-retry request id (watermarkOf (s .log)) events))
+none-late (call.note endpoint cluster attr) s = tt
+none-late (call.report at) s = λ _ h. rw (opened-retry (nextUp at s) (watermarkOf (s .log)) (at .events) (at .now)) h
+none-late (call.complete id o) s = λ _ _ _. fitting (closed (openWith id s) o) (closed-retry (openWith id s) o)
+none-late (call.remove choice reason) s = tt
+none-late call.clear s = tt
+none-late call.purge s = tt
+none-late (call.attribute id endpoint cluster attr) s = tt
+none-late (call.sendIfEmpty id kind) s = tt
+none-late (call.nextInstant events kind) s = tt
+none-late (call.anyReportable now events kind) s = tt
+none-late call.nextKeepAlive s = tt
+none-late (call.statistics fabric) s = tt
+none-late (call.hasSubscription fabric peer) s = tt
+none-late (call.round at outcomes ids) s = tt
+
 -- On every history from a fresh table each retry is an instant.
 pub retries-fit : (c : ℕ) (ops : List Op) → retriesFit (run ops (fresh c)) ≡ true
 retries-fit c ops =
-    let none =
-    nobody-ever lateRetry
-    (λ request id mark events now. fitting (priming request id mark events now) (omega (arith, priming-retry request id mark events now)))
-    (λ request id mark events. fitting (resumed request id mark events) (omega (arith, resumed-retry request id mark events)))
-    (λ x mark events now h. rw (opened-retry x mark events now) h)
-    (λ x o. fitting (closed x o) (closed-retry x o)) ops (fresh c) (omega (arith, count-nil lateRetry)) in
+    let none = nobody-ever lateRetry none-late ops (fresh c) (omega (arith, count-nil lateRetry)) in
     ap not (none-count lateRetry (run ops (fresh c) .stored) (omega arith))
 
 -- So there the above holds with no more to ask.

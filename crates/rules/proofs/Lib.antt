@@ -20,4 +20,5 @@ pub mod Counting
 pub mod Examples
 pub mod Refusing
 pub mod Rounds
+pub mod Plain
 pub mod Turns

@@ -1,92 +1,120 @@
--- A test that no subscription meets when it is admitted, and that neither a hand-out nor a completion brings about, no live one ever meets.
--- The counts of `Lives` for that test stay 0.
+-- The invariant of live subscriptions, over every call: a test that nobody meets before a call nobody meets after it, if whoever the call brings
+-- in, hands out or stores again does not. What holds of one subscription through its life is told by this and by nothing else.
 -- Assumes nothing.
-use mathlib.Core.Path.{_≡_, refl}
-use mathlib.Core.Bool.{Bool, true, false, cond}
+use mathlib.Core.Path.{_≡_, refl, sym, ap, _∙_}
+use mathlib.Core.Bool.{Bool, true, false, not, cond, _&&_}
 use mathlib.Core.List.{List, [], _∷_}
 use mathlib.Core.Option.{none}
-use Prim.Native.Nat.{ℕ}
+use Prim.Native.Nat.{ℕ, _+_}
 use native.Mathlib.Omega.{arith}
 use borrow.Author.Tests.{not-false}
-use Rattle.lists.specs.Search.{some}
-use Rattle.lists.proofs.Bools.{split}
-use Rattle.lists.proofs.Orders.{count-nil, one-no, none-one, count-taken}
-use Rattle.time.specs.declared.Instant.{Instant}
+use Rattle.lists.specs.Search.{one, some}
+use Rattle.lists.proofs.Bools.{split, and-right, or-neither}
+use Rattle.lists.proofs.Orders.{count-nil, count-none, none-count, none-counted, one-no, none-one, some-nil, some-cons, count-taken, count-taken-newest, first-meets}
 use Rattle.changes.specs.Logs.{watermarkOf}
 use Rattle.subscription.specs.declared.Subscription.{Subscription}
-use Rattle.subscription.specs.declared.Request.{Request}
-use Rattle.subscription.specs.Life.{blank, priming, resumed, opened, closed}
-use Rattle.rules.specs.States.{State, hasId}
+use Rattle.subscription.specs.Life.{blank, priming, resumed, closed, keeps}
+use Rattle.rules.specs.States.{State, hasId, idLive}
 use Rattle.rules.specs.Calls as call
 use Rattle.rules.specs.Calls.{Settings, Op}
-use Rattle.rules.specs.Machine.{stays, nextUp, firstOf, objections, notedIn, ready, reported, openWith, completedIn, purgedIn, Turn, turned, roundFrom, roundIn, act, step, run}
+use Rattle.rules.specs.Rounds.{isRound, plainly}
+use Rattle.rules.specs.Machine.{openedIn, nextUp, firstOf, objections, notedIn, ready, reported, openWith, cancelled, stays, completedIn, purgedIn, act, step, run}
 use Rattle.rules.proofs.Refusals.{step-either}
 use Rattle.rules.proofs.Objections.{unobjected, no-objection}
-use Rattle.rules.proofs.Lives.{lives, handed-state, added-lives, resumed-lives, reported-lives, completed-lives, removed-lives, cleared-lives, turn-found}
+use Rattle.rules.proofs.Plain.{plainly-plain, run-plainly}
+use Rattle.rules.proofs.Lives.{lives, handed-state, added-lives, resumed-lives, reported-lives, completed-lives, removed-lives, cleared-lives}
 
-module _ (p : Subscription → Bool)
-    (born : (request : Request) (id mark events : ℕ) (now : Instant) → p (priming request id mark events now) ≡ false)
-    (back : (request : Request) (id mark events : ℕ) → p (resumed request id mark events) ≡ false)
-    (handed : (x : Subscription) (mark events : ℕ) (now : Instant) → p x ≡ false → p (opened x mark events now) ≡ false)
-    (again : (x : Subscription) (o : ℕ) → p (closed x o) ≡ false) where
-  nobody-reported : (at : Settings) (s : State) → lives p s ≡ 0 → lives p (reported at s .state) ≡ 0
+-- nobody whom a plain call brings in, hands out or stores again meets q, where nobody met p before
+abbrev pub Spares : (Subscription → Bool) → (Subscription → Bool) → Op → State → Type 0
+Spares p q (call.new capacity) s = Unit {0}
+Spares p q (call.add request events now) s = idLive (s .next) s ≡ false → q (priming request (s .next) (watermarkOf (s .log)) events now) ≡ false
+Spares p q (call.resume id request events) s = idLive id s ≡ false → q (resumed request id (watermarkOf (s .log)) events) ≡ false
+Spares p q (call.note endpoint cluster attr) s = Unit {0}
+Spares p q (call.report at) s = some (ready at s) (s .stored) ≡ true → p (nextUp at s) ≡ false → q (openedIn at s (nextUp at s)) ≡ false
+Spares p q (call.complete id o) s = hasId id (openWith id s) ≡ true → p (openWith id s) ≡ false → keeps (openWith id s) o ≡ true → q (closed (openWith id s) o) ≡ false
+Spares p q (call.remove choice reason) s = Unit {0}
+Spares p q call.clear s = Unit {0}
+Spares p q call.purge s = Unit {0}
+Spares p q (call.attribute id endpoint cluster attr) s = Unit {0}
+Spares p q (call.sendIfEmpty id kind) s = Unit {0}
+Spares p q (call.nextInstant events kind) s = Unit {0}
+Spares p q (call.anyReportable now events kind) s = Unit {0}
+Spares p q call.nextKeepAlive s = Unit {0}
+Spares p q (call.statistics fabric) s = Unit {0}
+Spares p q (call.hasSubscription fabric peer) s = Unit {0}
+Spares p q (call.round at outcomes ids) s = Unit {0}
+
+-- whom a weaker test takes, a stronger one took
+pub fewer-live : (p q : Subscription → Bool) → ((x : Subscription) → q x ≡ true → p x ≡ true) → (s : State) → lives p s ≡ 0 → lives q s ≡ 0
+fewer-live p q weaker s h =
+    omega (
+      arith,
+      none-counted p q (s .stored) weaker (none-count p (s .stored) (omega arith)),
+      none-counted p q (s .opens) weaker (none-count p (s .opens) (omega arith)),
+    )
+
+module _ (p q : Subscription → Bool) (weaker : (x : Subscription) → q x ≡ true → p x ≡ true) where
+  spared-report : (at : Settings) (s : State) → Spares p q (call.report at) s → lives p s ≡ 0 → lives q (reported at s .state) ≡ 0
   unfolding reported
-  nobody-reported at s h =
+  spared-report at s spares h =
       split (some (ready at s) (s .stored))
       (λ t. let x = nextUp at s in
       let taken = count-taken p (ready at s) blank (s .stored) t in
       let stored = none-one (p x) (omega arith) in
-      let out = one-no (handed x (watermarkOf (s .log)) (at .events) (at .now) stored) in
-      rw (handed-state at s t) (omega (arith, reported-lives p s at t)))
-      (λ t. rw (t, reported) h)
+      rw (handed-state at s t) (omega (arith, fewer-live p q weaker s h, reported-lives q s at t, one-no (spares t stored))))
+      (λ t. rw (t, reported) (fewer-live p q weaker s h))
 
-  nobody-completed : (id o : ℕ) (s : State) → some (hasId id) (s .opens) ≡ true → lives p s ≡ 0 → lives p (completedIn id o s .state) ≡ 0
-  nobody-completed id o s found h =
-      let most = nothing-more (stays (openWith id s) o s) (one-no (again (openWith id s) o)) in
-      omega (arith, completed-lives p s id o found)
+  spared-end : (id o : ℕ) (s : State) → Spares p q (call.complete id o) s → some (hasId id) (s .opens) ≡ true → lives p s ≡ 0
+      → lives q (completedIn id o s .state) ≡ 0
+  spared-end id o s spares found h =
+      let x = openWith id s in
+      let met = first-meets (hasId id) blank (s .opens) found in
+      let free = none-one (p x) (omega (arith, count-taken-newest p (hasId id) blank (s .opens) found)) in
+      omega (arith, fewer-live p q weaker s h, completed-lives q s id o found, put (stays x o s) refl met free)
     where
-      nothing-more : (b : Bool) {n : ℕ} → n ≡ 0 → cond b n 0 ≡ 0
-      nothing-more true e = e
-      nothing-more false e = refl
+      put : (b : Bool) → stays (openWith id s) o s ≡ b → hasId id (openWith id s) ≡ true → p (openWith id s) ≡ false
+          → cond b (one (q (closed (openWith id s) o))) 0 ≡ 0
+      put true e met free = one-no (spares met free (and-right (not (cancelled (openWith id s) s)) (keeps (openWith id s) o) e))
+      put false e met free = refl
 
-  nobody-turned : (at : Settings) (os : List ℕ) (t : Turn) → lives p (t .state) ≡ 0 → lives p (roundFrom at os t .state) ≡ 0
-  unfolding roundFrom
-  nobody-turned at [] t h = h
-  nobody-turned at (o ∷ os) t h =
-      let s = t .state in
-      split (some (ready at s) (s .stored))
-      (λ e. rw (e, roundFrom)
-      (nobody-turned at os (turned at o t)
-      (nobody-completed (nextUp at s .id) o (reported at s .state) (turn-found at s e) (nobody-reported at s h))))
-      (λ e. rw (e, roundFrom) h)
+  spared-act : (op : Op) (s : State) → isRound op ≡ false → Spares p q op s → firstOf (objections op s) ≡ none → lives p s ≡ 0
+      → lives q (act op s .state) ≡ 0
+  unfolding act objections notedIn purgedIn
+  spared-act (call.new capacity) s plain spares e h = omega (arith, count-nil q)
+  spared-act (call.add request events now) s plain spares e h =
+      let clear = unobjected _ _ _ (unobjected _ _ _ (unobjected _ _ _ e .1) .1) .0 in
+      omega (arith, added-lives q s request events now, fewer-live p q weaker s h, one-no (spares clear))
+  spared-act (call.resume id request events) s plain spares e h =
+      let clear = unobjected _ _ _ (unobjected _ _ _ (unobjected _ _ _ e .1) .1) .0 in
+      omega (arith, resumed-lives q s id request events, fewer-live p q weaker s h, one-no (spares clear))
+  spared-act (call.note endpoint cluster attr) s plain spares e h = fewer-live p q weaker s h
+  spared-act (call.report at) s plain spares e h = spared-report at s spares h
+  spared-act (call.complete id o) s plain spares e h = spared-end id o s spares (not-false _ (unobjected _ _ _ (unobjected _ _ _ e .1) .0)) h
+  spared-act (call.remove choice reason) s plain spares e h = omega (arith, removed-lives q s choice reason, fewer-live p q weaker s h)
+  spared-act call.clear s plain spares e h = omega (arith, cleared-lives q s, fewer-live p q weaker s h)
+  spared-act call.purge s plain spares e h = fewer-live p q weaker s h
+  spared-act (call.attribute id endpoint cluster attr) s plain spares e h = fewer-live p q weaker s h
+  spared-act (call.sendIfEmpty id kind) s plain spares e h = fewer-live p q weaker s h
+  spared-act (call.nextInstant events kind) s plain spares e h = fewer-live p q weaker s h
+  spared-act (call.anyReportable now events kind) s plain spares e h = fewer-live p q weaker s h
+  spared-act call.nextKeepAlive s plain spares e h = fewer-live p q weaker s h
+  spared-act (call.statistics fabric) s plain spares e h = fewer-live p q weaker s h
+  spared-act (call.hasSubscription fabric peer) s plain spares e h = fewer-live p q weaker s h
+  spared-act (call.round at outcomes ids) s plain spares e h = absurd (let z : _≡_ {A = ℕ} 0 1 = cc in omega arith)
 
-  nobody-acts : (op : Op) (s : State) → firstOf (objections op s) ≡ none → lives p s ≡ 0 → lives p (act op s .state) ≡ 0
-  unfolding act objections roundIn notedIn purgedIn
-  nobody-acts (call.new capacity) s e h = omega (arith, count-nil p)
-  nobody-acts (call.add request events now) s e h =
-      omega (arith, added-lives p s request events now, one-no (born request (s .next) (watermarkOf (s .log)) events now))
-  nobody-acts (call.resume id request events) s e h =
-      omega (arith, resumed-lives p s id request events, one-no (back request id (watermarkOf (s .log)) events))
-  nobody-acts (call.note endpoint cluster attr) s e h = h
-  nobody-acts (call.report at) s e h = nobody-reported at s h
-  nobody-acts (call.complete id o) s e h = nobody-completed id o s (not-false _ (unobjected _ _ _ (unobjected _ _ _ e .1) .0)) h
-  nobody-acts (call.remove choice reason) s e h = omega (arith, removed-lives p s choice reason)
-  nobody-acts call.clear s e h = omega (arith, cleared-lives p s)
-  nobody-acts call.purge s e h = h
-  nobody-acts (call.attribute id endpoint cluster attr) s e h = h
-  nobody-acts (call.sendIfEmpty id kind) s e h = h
-  nobody-acts (call.nextInstant events kind) s e h = h
-  nobody-acts (call.anyReportable now events kind) s e h = h
-  nobody-acts call.nextKeepAlive s e h = h
-  nobody-acts (call.statistics fabric) s e h = h
-  nobody-acts (call.hasSubscription fabric peer) s e h = h
-  nobody-acts (call.round at outcomes ids) s e h = nobody-turned at outcomes _ h
+  -- one call, refused or not
+  pub spared : (op : Op) (s : State) → isRound op ≡ false → Spares p q op s → lives p s ≡ 0 → lives q (step op s .state) ≡ 0
+  spared op s plain spares h =
+      step-either (λ r. lives q (r .state) ≡ 0) op s (λ e. spared-act op s plain spares (no-objection op s e) h) (λ why e. fewer-live p q weaker s h)
 
-  nobody-stepped : (op : Op) (s : State) → lives p s ≡ 0 → lives p (step op s .state) ≡ 0
-  nobody-stepped op s h = step-either (λ r. lives p (r .state) ≡ 0) op s (λ e. nobody-acts op s (no-objection op s e) h) (λ why e. h)
-
-  -- over every history
-  pub nobody-ever : (ops : List Op) (s : State) → lives p s ≡ 0 → lives p (run ops s) ≡ 0
+-- over every history, where no plain call brings it about
+module _ (p : Subscription → Bool) (spares : (op : Op) (s : State) → Spares p p op s) where
+  plain-ever : (ops : List Op) (s : State) → some isRound ops ≡ false → lives p s ≡ 0 → lives p (run ops s) ≡ 0
   unfolding run
-  nobody-ever [] s h = h
-  nobody-ever (op ∷ ops) s h = nobody-ever ops (step op s .state) (nobody-stepped op s h)
+  plain-ever [] s plain h = h
+  plain-ever (op ∷ ops) s plain h =
+      let w = or-neither (isRound op) (some isRound ops) (sym (some-cons isRound op ops) ∙ plain) in
+      plain-ever ops (step op s .state) (w .1) (spared p p (λ x e. e) op s (w .0) (spares op s) h)
+
+  pub nobody-ever : (ops : List Op) (s : State) → lives p s ≡ 0 → lives p (run ops s) ≡ 0
+  nobody-ever ops s h = ap (lives p) (sym (run-plainly ops s)) ∙ plain-ever (plainly ops s) s (plainly-plain ops s) h
