@@ -27,7 +27,7 @@ pub record Scan (i : ℕ) (r : Reading) (held s : List ℕ) (t : Scanned) (held�
   pub after-is : after r held (take (t .used - i) s) ≡ (t .reading, held′)
   pub found-is : found r held (take (t .used - i) s) ≡ textIn held′ (t .found)
 
-ends-not : (f : Found) → endsOf f ≡ false → f ≡ Nothing
+pub ends-not : (f : Found) → endsOf f ≡ false → f ≡ Nothing
 ends-not Nothing e = refl
 ends-not Bad e = let z : _≡_ {A = ℕ} 0 1 = cc in let o : ⊥ = omega arith in absurd o
 ends-not (Whole n) e = let z : _≡_ {A = ℕ} 0 1 = cc in let o : ⊥ = omega arith in absurd o
@@ -75,7 +75,7 @@ module _ (i : ℕ) (r : Reading) (held : List ℕ) (b : ℕ) (s : List ℕ) wher
   by-first true e p = rw (scan-ends i r held b s t held′ refl e) (stops e)
   by-first false e p = rw (scan-goes i r held b s t held′ refl e) (goes _ _ e p)
 
-scan-from : (i : ℕ) (r : Reading) (held s : List ℕ) → Scan i r held s (scanFrom i r held s .0) (scanFrom i r held s .1)
+pub scan-from : (i : ℕ) (r : Reading) (held s : List ℕ) → Scan i r held s (scanFrom i r held s .0) (scanFrom i r held s .1)
 unfolding scanFrom after found
 scan-from i r held [] =
     record {

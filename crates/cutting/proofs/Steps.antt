@@ -12,7 +12,7 @@ use Rattle.cutting.specs.Steps.{stillOf, endedOf, endingOf, spoiltOf, wa
 use Rattle.cutting.specs.declared.Reading.{Reading}
 use Rattle.cutting.specs.declared.Stepped.{Stepped}
 use Rattle.cutting.specs.declared.Scanned.{Scanned}
-use Rattle.cutting.specs.declared.Found.the-variants.{Bad, Whole}
+use Rattle.cutting.specs.declared.Found.the-variants.{Nothing, Bad, Whole}
 
 module _ (r : Reading) (held : List ℕ) (b : ℕ) where
   pub step-stopped : r .most ≤ r .number → stepOf r held b ≡ (stillOf r, held)
@@ -118,3 +118,7 @@ module _ (i : ℕ) (r : Reading) (held : List ℕ) (b : ℕ) (s : List ℕ) (t :
 
   pub scan-goes : endsOf (t .found) ≡ false → scanFrom i r held (b ∷ s) ≡ scanFrom (i + 1) (t .reading) held′ s
   scan-goes h = by-step ∙ rw h
+
+pub scan-none : (i : ℕ) (r : Reading) (held : List ℕ) → scanFrom i r held [] ≡ (record { reading = r; found = Nothing; used = i }, held)
+unfolding scanFrom
+scan-none i r held = refl

@@ -127,7 +127,7 @@ pub fn close(r: Reading) -> Stepped
 }
 
 // Whether a line ended.
-fn ends(found: Found) -> bool
+pub fn ends(found: Found) -> bool
     ensures { λ t. ⌜ t ≡ endsOf found ⌝ }
 {
     match found {

@@ -90,6 +90,11 @@ module _ (n x : ChangedAttr) where
   unfolding covers
   renewed-covers k = refl
 
+-- covering is a matter of the paths
+pub path-covers : (j k : ℕ) (a b : ChangedAttr) → covers (withIdentity j a) (withIdentity k b) ≡ covers a b
+unfolding covers
+path-covers j k a b = refl
+
 pub upTo-at : (t : ℕ) (x : ChangedAttr) → upTo t x ≡ leb (x .identity) t
 unfolding upTo
 upTo-at t x = refl

@@ -72,7 +72,7 @@ room-some len at room h = go (leb at (len - room)) refl
     go true e = let k = leb-true at (len - room) e in e ∙ sym (le-leb (at + room) len (omega arith))
     go false e = let k = leb-false at (len - room) e in e ∙ sym (lt-leb (at + room) len (omega arith))
 
-put-all : (room : ℕ) (out : List ℕ) (at : ℕ) (text : List ℕ) → at + room ≤ length out → putOf room out at text ≡ (at + length text, sets out at text)
+pub put-all : (room : ℕ) (out : List ℕ) (at : ℕ) (text : List ℕ) → at + room ≤ length out → putOf room out at text ≡ (at + length text, sets out at text)
 unfolding putOf
 put-all room out at text h = simp (le-leb (at + room) (length out) h)
 

@@ -14,7 +14,7 @@ ghost use Rattle.printing.specs.Inner.{Put};
 const FIELD_ROOM: usize = 21;
 
 // Three numbers, two commas and the CRLF.
-const ANSWER_ROOM: usize = 64;
+pub const ANSWER_ROOM: usize = 64;
 
 // Puts an answer into `out` at `at`, and answers the place after it.
 pub fn put_answer(out: &mut [u8], at: usize, number: u64, code: u8, value: u64) -> usize
@@ -56,7 +56,8 @@ fn put_digits(out: &mut [u8], at: usize, n: u64) -> usize
     k + 1
 }
 
-fn has_room(len: usize, at: usize, room: usize) -> bool
+// Whether `room` bytes are free behind `at` in a buffer of `len`.
+pub fn has_room(len: usize, at: usize, room: usize) -> bool
     ensures { λ r. ⌜ r ≡ leb (at + room) len ⌝ }
 {
     if len < room {
