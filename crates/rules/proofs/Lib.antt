@@ -22,3 +22,4 @@ pub mod Refusing
 pub mod Rounds
 pub mod Plain
 pub mod Turns
+pub mod LogKept

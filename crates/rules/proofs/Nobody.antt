@@ -18,7 +18,7 @@ use Rattle.rules.specs.States.{State, hasId, idLive}
 use Rattle.rules.specs.Calls as call
 use Rattle.rules.specs.Calls.{Settings, Op}
 use Rattle.rules.specs.Rounds.{isRound, plainly}
-use Rattle.rules.specs.Machine.{openedIn, nextUp, firstOf, objections, notedIn, ready, reported, openWith, cancelled, stays, completedIn, purgedIn, act, step, run}
+use Rattle.rules.specs.Machine.{openedIn, nextUp, firstOf, objections, notedIn, ready, reported, openWith, cancelled, stays, completedIn, purgedIn, refusal, act, step, run}
 use Rattle.rules.proofs.Refusals.{step-either}
 use Rattle.rules.proofs.Objections.{unobjected, no-objection}
 use Rattle.rules.proofs.Plain.{plainly-plain, run-plainly}
@@ -103,9 +103,10 @@ module _ (p q : Subscription → Bool) (weaker : (x : Subscription) → q x ≡ 
   spared-act (call.round at outcomes ids) s plain spares e h = absurd (let z : _≡_ {A = ℕ} 0 1 = cc in omega arith)
 
   -- one call, refused or not
-  pub spared : (op : Op) (s : State) → isRound op ≡ false → Spares p q op s → lives p s ≡ 0 → lives q (step op s .state) ≡ 0
+  pub spared : (op : Op) (s : State) → isRound op ≡ false → (refusal op s ≡ none → Spares p q op s) → lives p s ≡ 0
+      → lives q (step op s .state) ≡ 0
   spared op s plain spares h =
-      step-either (λ r. lives q (r .state) ≡ 0) op s (λ e. spared-act op s plain spares (no-objection op s e) h) (λ why e. fewer-live p q weaker s h)
+      step-either (λ r. lives q (r .state) ≡ 0) op s (λ e. spared-act op s plain (spares e) (no-objection op s e) h) (λ why e. fewer-live p q weaker s h)
 
 -- over every history, where no plain call brings it about
 module _ (p : Subscription → Bool) (spares : (op : Op) (s : State) → Spares p p op s) where
@@ -114,7 +115,7 @@ module _ (p : Subscription → Bool) (spares : (op : Op) (s : State) → Spares 
   plain-ever [] s plain h = h
   plain-ever (op ∷ ops) s plain h =
       let w = or-neither (isRound op) (some isRound ops) (sym (some-cons isRound op ops) ∙ plain) in
-      plain-ever ops (step op s .state) (w .1) (spared p p (λ x e. e) op s (w .0) (spares op s) h)
+      plain-ever ops (step op s .state) (w .1) (spared p p (λ x e. e) op s (w .0) (λ _. spares op s) h)
 
   pub nobody-ever : (ops : List Op) (s : State) → lives p s ≡ 0 → lives p (run ops s) ≡ 0
   nobody-ever ops s h = ap (lives p) (sym (run-plainly ops s)) ∙ plain-ever (plainly ops s) s (plainly-plain ops s) h

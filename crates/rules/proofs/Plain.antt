@@ -8,15 +8,17 @@ use mathlib.Core.Option.{Option, none}
 use mathlib.Core.Option.{some as just}
 use Prim.Native.Nat.{ℕ}
 use native.Mathlib.Omega.{arith}
+use native.Mathlib.Nat.{add-zero}
 use Rattle.refusal.specs.declared.Refusal.{Refusal}
-use Rattle.lists.specs.Search.{some}
+use Rattle.lists.specs.Search.{one, some, count}
 use Rattle.lists.proofs.Bools.{split}
 use Rattle.lists.proofs.Searches.{some-append}
+use Rattle.lists.proofs.Orders.{count-append, count-none, one-no}
 use Rattle.rules.specs.States.{State}
 use Rattle.rules.specs.Calls as call
 use Rattle.rules.specs.Calls.{Settings, Op}
 use Rattle.rules.specs.Rounds.{callsOf, isRound, roundCalls, callsFor, plainly}
-use Rattle.rules.specs.Machine.{refusal, ready, step, run}
+use Rattle.rules.specs.Machine.{refusal, ready, nextUp, step, run}
 use Rattle.rules.proofs.Refusals.{refused-alters-nothing}
 use Rattle.rules.proofs.Rounds.{round-is-its-calls}
 
@@ -67,18 +69,20 @@ plain-alone (call.statistics fabric) s h = refl
 plain-alone (call.hasSubscription fabric peer) s h = refl
 plain-alone (call.round at outcomes ids) s h = absurd (let z : _≡_ {A = ℕ} 0 1 = cc in omega arith)
 
--- a round of reports and completions holds no round
-calls-plain : (at : Settings) (os : List ℕ) (s : State) → some isRound (callsOf at os s) ≡ false
+-- a round holds reports and completions alone
+calls-only : (p : Op → Bool) → ((at : Settings) → p (call.report at) ≡ false) → ((id o : ℕ) → p (call.complete id o) ≡ false)
+    → (at : Settings) (os : List ℕ) (s : State) → some p (callsOf at os s) ≡ false
 unfolding callsOf some
-calls-plain at [] s = refl
-calls-plain at (o ∷ os) s = split (some (ready at s) (s .stored)) (λ e. rw (e, callsOf) (calls-plain at os _)) (λ e. rw (e, callsOf))
+calls-only p r c at [] s = refl
+calls-only p r c at (o ∷ os) s =
+    split (some (ready at s) (s .stored)) (λ e. rw (e, callsOf) (rw (r at, c (nextUp at s .id) o) (calls-only p r c at os _))) (λ e. rw (e, callsOf))
 
 for-plain : (op : Op) (s : State) → some isRound (callsFor op s) ≡ false
 unfolding callsFor some
 for-plain op s = go op (plain-or-round op)
   where
     called : (r : Option Refusal) (at : Settings) (os : List ℕ) → some isRound (roundCalls r at os s) ≡ false
-    called none at os = calls-plain at os s
+    called none at os = calls-only isRound (λ _. refl) (λ _ _. refl) at os s
     called (just why) at os = refl
 
     go : (op : Op) → (isRound op ≡ false) ⊎ ((at : Settings) × (outcomes : List ℕ) × (ids : List ℕ) × (op ≡ call.round at outcomes ids))
@@ -116,3 +120,25 @@ run-plainly (op ∷ ops) s =
     run-append (callsFor op s) (plainly ops (step op s .state)) s
     ∙ ap (run (plainly ops (step op s .state))) (for-run op s)
     ∙ run-plainly ops (step op s .state)
+
+-- what is neither a report nor a completion nor a round is counted as often in a history that is told plainly
+module _ (p : Op → Bool) (r : (at : Settings) → p (call.report at) ≡ false) (c : (id o : ℕ) → p (call.complete id o) ≡ false)
+    (n : (at : Settings) (os ids : List ℕ) → p (call.round at os ids) ≡ false) where
+  for-counts : (op : Op) (s : State) → count p (callsFor op s) ≡ one (p op)
+  unfolding callsFor count
+  for-counts op s = go op (plain-or-round op)
+    where
+      called : (x : Option Refusal) (at : Settings) (os : List ℕ) → count p (roundCalls x at os s) ≡ 0
+      called none at os = count-none p (callsOf at os s) (calls-only p r c at os s)
+      called (just why) at os = refl
+
+      go : (op : Op) → (isRound op ≡ false) ⊎ ((at : Settings) × (outcomes : List ℕ) × (ids : List ℕ) × (op ≡ call.round at outcomes ids))
+          → count p (callsFor op s) ≡ one (p op)
+      go op (inl h) = rw (plain-alone op s h) (add-zero (one (p op)))
+      go op (inr (at, os, ids, e)) = rw e (called (refusal (call.round at os ids) s) at os ∙ sym (one-no (n at os ids)))
+
+  pub plainly-counts : (ops : List Op) (s : State) → count p (plainly ops s) ≡ count p ops
+  unfolding plainly count
+  plainly-counts [] s = refl
+  plainly-counts (op ∷ ops) s =
+      count-append p (callsFor op s) (plainly ops (step op s .state)) ∙ rw (for-counts op s, plainly-counts ops (step op s .state))

@@ -115,7 +115,7 @@ module _ (x : Subscription) (mark events : ℕ) (now : Instant) where
 
 module _ (x : Subscription) where
   -- what holds of it with any values stored holds of it after each outcome
-  closed-by : (P : Subscription → Type 0) (outcome : ℕ) → P (closedRetry x) → P (closedUnsent x) → P (closedSent x) → P (closed x outcome)
+  pub closed-by : (P : Subscription → Type 0) (outcome : ℕ) → P (closedRetry x) → P (closedUnsent x) → P (closedSent x) → P (closed x outcome)
   unfolding closed
   closed-by P outcome retry unsent sent = go (eqb outcome 2) (eqb outcome 1)
     where

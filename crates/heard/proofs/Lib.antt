@@ -1,0 +1,5 @@
+pub mod Tracked
+pub mod Sane
+pub mod Standing
+pub mod Histories
+pub mod Unheard
