@@ -3,3 +3,8 @@ pub mod Sane
 pub mod Standing
 pub mod Histories
 pub mod Unheard
+pub mod Turning
+pub mod Waiting
+pub mod Playing
+pub mod RoundHears
+pub mod Rounds
