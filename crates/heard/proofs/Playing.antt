@@ -14,7 +14,7 @@ use Rattle.subscription.specs.declared.Settings.{Settings}
 use Rattle.subscription.specs.declared.Subscription.{Subscription}
 use Rattle.lists.specs.Search.{one, some, count, distinct}
 use Rattle.subscription.specs.Life.{blank}
-use Rattle.rules.specs.States.{State, hasId}
+use Rattle.rules.specs.States.{State, reportOpen, hasId, wellKept}
 use Rattle.rules.specs.Machine.{changedFor, ready, nextUp, reported, step}
 use Rattle.rules.specs.Rounds.{handedId}
 use Rattle.heard.specs.Playing.{Turn, Played, withEvents, turned, saysNothing, nobody, whom, also, play, plainOutcome, odd, allowedBy}
@@ -30,13 +30,13 @@ use Rattle.heard.proofs.Waiting.{Begun, waiting, one-fewer, turn-begun,
 
 -- ---- a round, by whether somebody is reportable
 
-module _ (at : Settings) (s : State) (b : Begun s) where
+module _ (at : Settings) (s : State) (well : wellKept s ≡ true) (shut : reportOpen s ≡ false) where
   module _ (us : List Turn) (u : Turn) where
     pub play-stops : some (ready (withEvents at (u .events)) s) (s .stored) ≡ false
         → play at (u ∷ us) s ≡ record { out = []; state = s; silent = true }
     unfolding play
     play-stops idle =
-        let e = report-silent (withEvents at (u .events)) s (kept-sound s (b .well)) (b .shut) idle in
+        let e = report-silent (withEvents at (u .events)) s (kept-sound s well) shut idle in
         rw (e, play) (rw e)
 
     pub play-goes-on : some (ready (withEvents at (u .events)) s) (s .stored) ≡ true
@@ -45,16 +45,16 @@ module _ (at : Settings) (s : State) (b : Begun s) where
         (play at us (turned (nextUp (withEvents at (u .events)) s .id) u (reported (withEvents at (u .events)) s .state)))
     unfolding play
     play-goes-on found =
-        let e = report-step (withEvents at (u .events)) 0 s (kept-sound s (b .well)) (b .shut) found in
+        let e = report-step (withEvents at (u .events)) 0 s (kept-sound s well) shut found in
         rw (e, play) (rw e)
 
   pub play-ends : some (ready at s) (s .stored) ≡ false → play at [] s .silent ≡ true
   unfolding play
-  play-ends idle = rw (report-silent at s (kept-sound s (b .well)) (b .shut) idle)
+  play-ends idle = rw (report-silent at s (kept-sound s well) shut idle)
 
   pub play-cut : some (ready at s) (s .stored) ≡ true → play at [] s .silent ≡ false
   unfolding play
-  play-cut found = rw (report-step at 0 s (kept-sound s (b .well)) (b .shut) found)
+  play-cut found = rw (report-step at 0 s (kept-sound s well) shut found)
 
 play-nothing : (at : Settings) (s : State) → play at [] s .out ≡ []
 unfolding play
@@ -82,9 +82,9 @@ module _ (at : Settings) (time : at .now .ms + 65535000 ≤ lastInstant .ms) whe
   out-fewer (u ∷ us) s b h =
       let w = first-plain u us h in
       split (some (ready (withEvents at (u .events)) s) (s .stored))
-      (λ e. rw (play-goes-on at s b us u e)
+      (λ e. rw (play-goes-on at s (b .well) (b .shut) us u e)
       (omega (arith, one-fewer at time s b u (w .0) e, out-fewer us _ (turn-begun at time s b u (w .0) e) (w .1))))
-      (λ e. rw (play-stops at s b us u e) (omega arith))
+      (λ e. rw (play-stops at s (b .well) (b .shut) us u e) (omega arith))
 
   -- nobody is handed out more often than it waits
   out-once : (j : ℕ) (us : List Turn) (s : State) → Begun s → some odd us ≡ false
@@ -98,14 +98,14 @@ module _ (at : Settings) (time : at .now .ms + 65535000 ≤ lastInstant .ms) whe
       let t = turned id u (reported at′ s .state) in
       let more = out-once j us t (turn-begun at time s b u (w .0) e) (w .1) in
       let all = count-cons (λ y. eqb y j) id (play at us t .out) in
-      rw (play-goes-on at s b us u e)
+      rw (play-goes-on at s (b .well) (b .shut) us u e)
       (split (eqb id j)
       (λ same. let k = eqb-true id j same in
       let first = ap (λ n. count (waiting (at .now) n) (s .stored)) k in
       let then = ap (λ n. count (waiting (at .now) n) (t .stored)) k in
       omega (arith, waiting-first at time s b u (w .0) e, this-one-spoke at time s b u (w .0) e, one-yes same))
       (λ other. omega (arith, others-wait at time s b u (w .0) e j other, one-no other))))
-      (λ e. rw (play-stops at s b us u e) (omega (arith, count-nil (λ (y : ℕ). eqb y j))))
+      (λ e. rw (play-stops at s (b .well) (b .shut) us u e) (omega (arith, count-nil (λ (y : ℕ). eqb y j))))
 
   -- and it waits at most once
   pub nobody-twice : (us : List Turn) (s : State) → Begun s → some odd us ≡ false → distinct (λ n. n) (play at us s .out) ≡ true
@@ -116,10 +116,10 @@ module _ (at : Settings) (time : at .now .ms + 65535000 ≤ lastInstant .ms) whe
   -- with as many turns as may speak it falls silent
   pub falls-silent : (us : List Turn) (s : State) → Begun s → some odd us ≡ false → count (allowedBy (at .now)) (s .stored) ≤ length us
       → play at us s .silent ≡ true
-  falls-silent [] s b h few = play-ends at s b (none-ready at s (omega arith))
+  falls-silent [] s b h few = play-ends at s (b .well) (b .shut) (none-ready at s (omega arith))
   falls-silent (u ∷ us) s b h few =
       let w = first-plain u us h in
       split (some (ready (withEvents at (u .events)) s) (s .stored))
-      (λ e. rw (play-goes-on at s b us u e)
+      (λ e. rw (play-goes-on at s (b .well) (b .shut) us u e)
       (falls-silent us _ (turn-begun at time s b u (w .0) e) (w .1) (omega (arith, one-fewer at time s b u (w .0) e))))
-      (λ e. rw (play-stops at s b us u e))
+      (λ e. rw (play-stops at s (b .well) (b .shut) us u e))

@@ -201,14 +201,14 @@ module _ (i k : ℕ) (q : ChangedAttr) (pos : 0 < k) (since : Bool) where
       → n + notesDuring us < 18446744073709551615 → Sane n s → Tracked i k q since s → 1 ≤ count (waiting (at .now) i) (s .stored)
       → play at us s .silent ≡ true → some (λ y. eqb y i) (play at us s .out) ≡ true
   silent-heard at time n [] s b plain low sane t waits silent =
-      absurd (clash silent (play-cut at s b (waiting-ready at s t (some-count (waiting (at .now) i) (s .stored) waits))))
+      absurd (clash silent (play-cut at s (b .well) (b .shut) (waiting-ready at s t (some-count (waiting (at .now) i) (s .stored) waits))))
   silent-heard at time n (u ∷ us) s b plain low sane t waits silent =
       let w = first-plain at time u us plain in
       let at′ = withEvents at (u .events) in
       let id = nextUp at′ s .id in
       let next = turned id u (reported at′ s .state) in
       let found = waiting-ready at′ s t (some-count (waiting (at .now) i) (s .stored) waits) in
-      let more = play-goes-on at s b us u found in
+      let more = play-goes-on at s (b .well) (b .shut) us u found in
       rw more
       (some-cons (λ y. eqb y i) id (play at us next .out)
       ∙ split (eqb id i)
