@@ -181,7 +181,8 @@ module _ (g : ChangedAttrs) (h : kept g ≡ true) (e c a : ℕ) where
   note-carried =
       rw noted-entries
       (entered-has (noteOf g e c a) (carries (noteOf g e c a) (g .next))
-      (λ x w. carries-by (noteOf g e c a) (withIdentity (g .next) x) (g .next) (renewed-covers x (noteOf g e c a) (g .next) ∙ w) refl) (entriesOf g))
+      (λ x w. carries-by (noteOf g e c a) (withIdentity (g .next) x) (g .next)
+      (renewed-covers x (noteOf g e c a) (g .next) ∙ w) refl) (entriesOf g))
 
   -- so does some entry for every path under the note
   pub note-new : (q : ChangedAttr) → covers (noteOf g e c a) q ≡ true → reached (noted g e c a .log) q (g .next) ≡ true
@@ -225,7 +226,8 @@ module _ (g : ChangedAttrs) (t : ℕ) where
   pub purge-kept : kept g ≡ true → kept (purged g t .log) ≡ true
   purge-kept h =
       purged-by (λ r. kept r ≡ true) h
-      (held-kept (sweep (upTo t) (entriesOf g)) (g .next) (omega (arith, length-swept (upTo t) (entriesOf g), entries-fit g h)) (kept-next g h))
+      (held-kept (sweep (upTo t) (entriesOf g)) (g .next)
+      (omega (arith, length-swept (upTo t) (entriesOf g), entries-fit g h)) (kept-next g h))
 
   pub purge-tidy : Tidy g → Tidy (purged g t .log)
   purge-tidy d = purged-by Tidy d (held-tidy (sweep (upTo t) (entriesOf g)) (g .next))
@@ -326,8 +328,8 @@ came-bounded (clear {n} {g} w) h = clear-bounded g (came-bounded w h)
 
 -- ---- the students' second mistake: "sixteen places can't cover a seventeenth change"
 
--- In a log of sixteen entries none of which covers the note or is covered by it, the note is covered afterwards, and so is everything that was
--- covered before. The hypotheses are those of the lecture; without them it holds as well.
+-- In a log of sixteen entries none of which covers the note or is covered by it, the note is covered afterwards, and so is everything that
+-- was covered before. The hypotheses are those of the lecture; without them it holds as well.
 pub seventeenth-change : (g : ChangedAttrs) (e c a : ℕ) → kept g ≡ true → length (entriesOf g) ≡ 16
     → some (over (noteOf g e c a)) (entriesOf g) ≡ false → some (under (noteOf g e c a)) (entriesOf g) ≡ false
     → (covered (noted g e c a .log) (noteOf g e c a) ≡ true)

@@ -57,7 +57,7 @@ impl ChangedAttrs {
         Mark::Refused(Refusal::NotWellKept)
     }
 
-    // The greatest identity that an entry has, 0 where there is none. Something has changed since an identity exactly where this is above it.
+    // The greatest identity that an entry has, 0 where there is none. Something has changed since an identity exactly where this is above.
     pub fn newest(self) -> Mark
         ensures { λ r. ⌜ r ≡ newestMark self ⌝ }
     {

@@ -28,8 +28,8 @@ use Rattle.notes.proofs.Groups.{largest-covers, folded-room}
 -- ---- identities
 
 -- the greatest identity of the entries that p holds of is at least that of each
-newest-least : (p q : ChangedAttr → Bool) (k : ℕ) (l : List ChangedAttr) → ((x : ChangedAttr) → q x ≡ true → (p x ≡ true) × (k ≤ x .identity))
-    → some q l ≡ true → k ≤ newest p l
+newest-least : (p q : ChangedAttr → Bool) (k : ℕ) (l : List ChangedAttr)
+    → ((x : ChangedAttr) → q x ≡ true → (p x ≡ true) × (k ≤ x .identity)) → some q l ≡ true → k ≤ newest p l
 unfolding some newest
 newest-least p q k [] f h = absurd (clash h refl)
 newest-least p q k (x ∷ xs) f h =
@@ -89,7 +89,8 @@ module _ (n : ChangedAttr) where
     unfolding inserted
     inserted-by l f g = split (ltb (length l) 16) (λ t. rw (t, inserted) (f (ltb-true _ _ t))) (λ t. rw (t, inserted) g)
 
-    entered-by : (l : List ChangedAttr) → (some (over n) l ≡ true → P (refreshed n l)) → P (inserted n (sweep (under n) l)) → P (entered n l)
+    entered-by : (l : List ChangedAttr) → (some (over n) l ≡ true → P (refreshed n l)) → P (inserted n (sweep (under n) l))
+        → P (entered n l)
     unfolding entered
     entered-by l f g = split (some (over n) l) (λ t. rw (t, entered) (f t)) (λ t. rw (t, entered) g)
 
@@ -205,7 +206,8 @@ module _ (n : ChangedAttr) where
         let e = withIdentity (newest (under by) m) by in
         ⊎-elim
         (λ t. f (was-there (under by) (above w) m t))
-        (λ t. ⊎-elim (λ u. f (newest-had (under by) w m (ltb-true _ _ (sym (above-at w e) ∙ u)))) (λ u. absurd (clash u refl)) (or-either (above w e) false t))
+        (λ t. ⊎-elim (λ u. f (newest-had (under by) w m (ltb-true _ _ (sym (above-at w e) ∙ u)))) (λ u. absurd (clash u refl))
+        (or-either (above w e) false t))
         (or-either (some (above w) (sweep (under by) m)) (some (above w) (e ∷ []))
         (sym (some-append (above w) (sweep (under by) m) (e ∷ [])) ∙ h))
 
@@ -221,7 +223,8 @@ module _ (n : ChangedAttr) where
         (λ level t. let m = folded (largest level rest .by) rest in
         let old : Old l m = folded-old (largest level rest .by) l rest was in
         placed-by (Old l) m (λ u. refreshed-old l m old) (ended-old l m old))
-        (λ e. ⊎-elim (λ t. absurd (clash t (not-above (allWild (n .identity))))) (λ t. absurd (clash t refl)) (or-either (above w (allWild (n .identity))) false e))))
+        (λ e. ⊎-elim (λ t. absurd (clash t (not-above (allWild (n .identity))))) (λ t. absurd (clash t refl))
+        (or-either (above w (allWild (n .identity))) false e))))
 
   -- ---- at most sixteen
   one-more : (l : List ChangedAttr) → length l < 16 → length (l ++ (n ∷ [])) ≤ 16

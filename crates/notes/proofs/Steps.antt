@@ -78,7 +78,8 @@ module _ (l : List ChangedAttr) (n : ℕ) (long : length l ≡ 16) where
   pushed e h = let within : n < length l = omega arith in rw (add-one, take-suc-set l n e within)
 
   -- an entry stored among them
-  pub renewed : (i k : ℕ) → i < n → take n (set l i (withIdentity k (getD l i blank))) ≡ set (take n l) i (withIdentity k (getD (take n l) i blank))
+  pub renewed : (i k : ℕ) → i < n
+      → take n (set l i (withIdentity k (getD l i blank))) ≡ set (take n l) i (withIdentity k (getD (take n l) i blank))
   renewed i k h = rw (getD-take n l i blank h, take-set-lt n l i _ h)
 
 -- blanks from n up to i, and one more

@@ -64,7 +64,7 @@ fn bounded(held: Held) -> Held
     all
 }
 
-// The note into the held: the first entry that covers it takes its identity; else those that it covers make way for it.
+// The note among the entries: the first one that covers it takes its identity; else those that it covers make way for it.
 fn record_raw(held: Held, new: ChangedAttr) -> Held
     requires { ⌜ held .len ≤ 16 ⌝ }
     ensures { λ r. ⌜ Holds r (entered new (listed held)) ⌝ }

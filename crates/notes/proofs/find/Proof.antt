@@ -37,8 +37,13 @@ meets-requires c κs = search needs
 
 returns : tie.Need-returns Inv-loop μ-loop
 returns c =
+    let a = c .before .before .before .before .before .args in
     let at = c .before .before .before .before .loop in
-    omega (arith, first-here (holds (c .before .before .before .before .before .args .rule)) (at .i) (c .before .before .before .before .before .args .t1 .len) (c .before .before .before .before .before .args .t1 .entries) blank (omega arith) (omega arith) (sym (c .before .meets .ensures) ∙ c .if1 .taken))
+    omega (
+      arith,
+      first-here (holds (a .rule)) (at .i) (a .t1 .len) (a .t1 .entries) blank (omega arith) (omega arith)
+          (sym (c .before .meets .ensures) ∙ c .if1 .taken),
+    )
 
 add-i : tie.Need-add-i Inv-loop μ-loop
 add-i c = search needs
@@ -48,13 +53,21 @@ loop-less c = search needs
 
 loop-again : tie.Need-loop-again Inv-loop μ-loop
 loop-again c =
-    let at = c .before .before .before .before .loop in
-    (omega (arith, first-next (holds (c .before .before .before .before .before .args .rule)) (at .i) (c .before .before .before .before .before .args .t1 .len) (c .before .before .before .before .before .args .t1 .entries) blank (omega arith) (omega arith) (sym (c .before .meets .ensures) ∙ c .if1 .left)), search needs)
+    let a = c .before .before .before .before .before .args in
+    let at = c .before .before .before .before .loop in (
+      omega (
+        arith,
+        first-next (holds (a .rule)) (at .i) (a .t1 .len) (a .t1 .entries) blank (omega arith) (omega arith)
+            (sym (c .before .meets .ensures) ∙ c .if1 .left),
+      ),
+      search needs,
+    )
 
 returns-2 : tie.Need-returns-2 Inv-loop μ-loop
 returns-2 c =
+    let a = c .before .before .args in
     let at = c .before .loop in
-    omega (arith, first-done (holds (c .before .before .args .rule)) (at .i) (c .before .before .args .t1 .len) (c .before .before .args .t1 .entries) blank (omega arith) (omega arith) (omega arith))
+    omega (arith, first-done (holds (a .rule)) (at .i) (a .t1 .len) (a .t1 .entries) blank (omega arith) (omega arith) (omega arith))
 
 pub find-spec : {M : Type 1} → statement M
 find-spec =

@@ -25,7 +25,8 @@ returns c =
     let new = c .before .before .before .before .args .new in
     let is = entries-length held (full _ (held .entries) (c .before .before .before .before .good .0 .1 .1 .0 .1 .0 .1)) (omega arith) in
     let there = sym (found (over new) (listed held) is (c .before .before .before .find .ensures)) ∙ lt-ltb _ _ (c .before .if1 .taken) in
-    holds-as (c .refresh .ensures) (refreshed-at new (listed held) is (c .before .before .before .find .ensures) (c .before .if1 .taken) ∙ placed-found new (listed held) there)
+    let at = refreshed-at new (listed held) is (c .before .before .before .find .ensures) (c .before .if1 .taken) in
+    holds-as (c .refresh .ensures) (at ∙ placed-found new (listed held) there)
 
 push-requires : tie.Need-push-requires
 push-requires c κs = search needs

@@ -47,15 +47,21 @@ loop-less c = search needs
 
 loop-again : tie.Need-loop-again Inv-loop μ-loop
 loop-again c =
+    let a = c .before .before .before .before .before .args in
     let at = c .before .before .before .before .loop in
-    let held = c .before .before .before .before .before .args .t1 in
-    (at .inv .0 ∙ largest-next (at .i) (held .len) (held .entries) (omega arith) (c .before .before .before .before .before .args .level) (listed held) (at .best) (omega arith) (c .larger-group .ensures) (c .before .group-of .ensures), search needs)
+    let held = a .t1 in (
+      at .inv .0 ∙ largest-next (at .i) (held .len) (held .entries) (omega arith) (a .level) (listed held) (at .best) (omega arith)
+          (c .larger-group .ensures) (c .before .group-of .ensures),
+      search needs,
+    )
 
 returns : tie.Need-returns Inv-loop μ-loop
 returns c =
+    let a = c .before .before .args in
     let at = c .before .loop in
-    let held = c .before .before .args .t1 in
-    sym (at .inv .0 ∙ largest-done (at .i) (held .len) (held .entries) (omega arith) (c .before .before .args .level) (listed held) (at .best) (omega arith) (omega arith))
+    let held = a .t1 in
+    sym (at .inv .0 ∙ largest-done (at .i) (held .len) (held .entries) (omega arith) (a .level) (listed held) (at .best)
+    (omega arith) (omega arith))
 
 pub largest-group-spec : {M : Type 1} → statement M
 largest-group-spec =

@@ -47,21 +47,36 @@ loop-less c = search needs
 
 loop-again : tie.Need-loop-again Inv-loop μ-loop
 loop-again c =
-    let at = c .before .before .before .before .before .loop in
-    (omega (arith, newest-hit (at .i) (c .before .before .before .before .before .before .args .t1 .len) (c .before .before .before .before .before .before .args .t1 .entries) (omega arith) (holds (c .before .before .before .before .before .before .args .rule)) (omega arith) (sym (c .before .before .meets .ensures) ∙ c .before .if1 .taken)), search needs)
+    let a = c .before .before .before .before .before .before .args in
+    let at = c .before .before .before .before .before .loop in (
+      omega (
+        arith,
+        newest-hit (at .i) (a .t1 .len) (a .t1 .entries) (omega arith) (holds (a .rule)) (omega arith)
+            (sym (c .before .before .meets .ensures) ∙ c .before .if1 .taken),
+      ),
+      search needs,
+    )
 
 loop-less-2 : tie.Need-loop-less-2 Inv-loop μ-loop
 loop-less-2 c = search needs
 
 loop-again-2 : tie.Need-loop-again-2 Inv-loop μ-loop
 loop-again-2 c =
-    let at = c .before .before .before .before .loop in
-    (omega (arith, newest-miss (at .i) (c .before .before .before .before .before .args .t1 .len) (c .before .before .before .before .before .args .t1 .entries) (omega arith) (holds (c .before .before .before .before .before .args .rule)) (omega arith) (sym (c .before .meets .ensures) ∙ c .if1 .left)), search needs)
+    let a = c .before .before .before .before .before .args in
+    let at = c .before .before .before .before .loop in (
+      omega (
+        arith,
+        newest-miss (at .i) (a .t1 .len) (a .t1 .entries) (omega arith) (holds (a .rule)) (omega arith)
+            (sym (c .before .meets .ensures) ∙ c .if1 .left),
+      ),
+      search needs,
+    )
 
 returns : tie.Need-returns Inv-loop μ-loop
 returns c =
+    let a = c .before .before .args in
     let at = c .before .loop in
-    omega (arith, newest-done (at .i) (c .before .before .args .t1 .len) (c .before .before .args .t1 .entries) (omega arith) (holds (c .before .before .args .rule)) (omega arith) (omega arith))
+    omega (arith, newest-done (at .i) (a .t1 .len) (a .t1 .entries) (omega arith) (holds (a .rule)) (omega arith) (omega arith))
 
 pub newest-of-spec : {M : Type 1} → statement M
 newest-of-spec =

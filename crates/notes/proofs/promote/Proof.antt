@@ -19,9 +19,10 @@ swept-requires c κs = search needs
 
 push-requires : tie.Need-push-requires
 push-requires c κs =
-    let held = c .before .before .args .held in
+    let a = c .before .before .args in
+    let held = a .held in
     let is = entries-length held (full _ (held .entries) (c .before .before .good .0 .1 .1 .0 .1 .0 .1)) (omega arith) in
-    omega (arith, swept-room (listed held) (c .before .before .args .by) (omega arith) (c .before .before .pre .1), c .swept .ensures .counts)
+    omega (arith, swept-room (listed held) (a .by) (omega arith) (c .before .before .pre .1), c .swept .ensures .counts)
 
 returns : tie.Need-returns
 unfolding folded

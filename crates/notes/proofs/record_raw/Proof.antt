@@ -27,9 +27,14 @@ refresh-requires c κs = search needs
 
 returns : tie.Need-returns
 returns c =
-    let held = c .before .before .before .before .args .held in
-    let new = c .before .before .before .before .args .new in
-    holds-as (c .refresh .ensures) (refreshed-at new (listed held) (counts (c .before .before .before .before)) (c .before .before .before .find .ensures) (c .before .if1 .taken) ∙ entered-found new (listed held) (sym (found (over new) (listed held) (counts (c .before .before .before .before)) (c .before .before .before .find .ensures)) ∙ lt-ltb _ _ (c .before .if1 .taken)))
+    let a = c .before .before .before .before .args in
+    let held = a .held in
+    let new = a .new in
+    let is = counts (c .before .before .before .before) in
+    let at = c .before .before .before .find .ensures in
+    let there = sym (found (over new) (listed held) is at) ∙ lt-ltb _ _ (c .before .if1 .taken) in
+    holds-as (c .refresh .ensures)
+    (refreshed-at new (listed held) is at (c .before .if1 .taken) ∙ entered-found new (listed held) there)
 
 swept-requires : tie.Need-swept-requires
 swept-requires c κs = search needs
@@ -39,22 +44,30 @@ push-requires c κs = search needs
 
 returns-2 : tie.Need-returns-2
 returns-2 c =
-    let held = c .before .before .before .before .before .before .before .args .held in
-    let new = c .before .before .before .before .before .before .before .args .new in
-    let none = sym (found (over new) (listed held) (counts (c .before .before .before .before .before .before .before)) (c .before .before .before .before .before .before .find .ensures)) ∙ le-ltb _ _ (c .before .before .before .before .if1 .left) in
+    let a = c .before .before .before .before .before .before .before .args in
+    let held = a .held in
+    let new = a .new in
+    let is = counts (c .before .before .before .before .before .before .before) in
+    let at = c .before .before .before .before .before .before .find .ensures in
+    let none = sym (found (over new) (listed held) is at) ∙ le-ltb _ _ (c .before .before .before .before .if1 .left) in
     let rest = c .before .before .before .swept .ensures in
-    holds-as (c .push .ensures) (rw (rest .lives) (inserted-room new (sweep (under new) (listed held)) (omega (arith, rest .counts)) ∙ entered-new new (listed held) none))
+    holds-as (c .push .ensures) (rw (rest .lives)
+    (inserted-room new (sweep (under new) (listed held)) (omega (arith, rest .counts)) ∙ entered-new new (listed held) none))
 
 promote-and-insert-requires : tie.Need-promote-and-insert-requires
 promote-and-insert-requires c κs = search needs
 
 returns-3 : tie.Need-returns-3
 returns-3 c =
-    let held = c .before .before .before .before .before .before .before .args .held in
-    let new = c .before .before .before .before .before .before .before .args .new in
-    let none = sym (found (over new) (listed held) (counts (c .before .before .before .before .before .before .before)) (c .before .before .before .before .before .before .find .ensures)) ∙ le-ltb _ _ (c .before .before .before .before .if1 .left) in
+    let a = c .before .before .before .before .before .before .before .args in
+    let held = a .held in
+    let new = a .new in
+    let is = counts (c .before .before .before .before .before .before .before) in
+    let at = c .before .before .before .before .before .before .find .ensures in
+    let none = sym (found (over new) (listed held) is at) ∙ le-ltb _ _ (c .before .before .before .before .if1 .left) in
     let rest = c .before .before .before .swept .ensures in
-    holds-as (c .promote-and-insert .ensures) (rw (rest .lives) (inserted-full new (sweep (under new) (listed held)) (omega (arith, rest .counts)) ∙ entered-new new (listed held) none))
+    holds-as (c .promote-and-insert .ensures) (rw (rest .lives)
+    (inserted-full new (sweep (under new) (listed held)) (omega (arith, rest .counts)) ∙ entered-new new (listed held) none))
 
 pub record-raw-spec : {M : Type 1} → statement M
 record-raw-spec =

@@ -56,7 +56,9 @@ loop-less c = search needs
 loop-again : tie.Need-loop-again Inv-loop μ-loop
 loop-again c =
     let at = c .before .before .before .before .before .loop in
-    (at .inv .0 ∙ scan-out (holds (c .before .before .before .before .before .before .args .rule)) (at .i) (at .n) (at .rest .entries) blank (omega arith) (omega arith) (sym (c .before .before .meets .ensures) ∙ c .before .if1 .taken), search needs)
+    let p = holds (c .before .before .before .before .before .before .args .rule) in
+    let met = sym (c .before .before .meets .ensures) ∙ c .before .if1 .taken in
+    (at .inv .0 ∙ scan-out p (at .i) (at .n) (at .rest .entries) blank (omega arith) (omega arith) met, search needs)
 
 add-i : tie.Need-add-i Inv-loop μ-loop
 add-i c = search needs
@@ -67,12 +69,16 @@ loop-less-2 c = search needs
 loop-again-2 : tie.Need-loop-again-2 Inv-loop μ-loop
 loop-again-2 c =
     let at = c .before .before .before .before .loop in
-    (at .inv .0 ∙ scan-kept (holds (c .before .before .before .before .before .args .rule)) (at .i) (at .n) (at .rest .entries) blank (omega arith) (omega arith) (sym (c .before .meets .ensures) ∙ c .if1 .left), search needs)
+    let p = holds (c .before .before .before .before .before .args .rule) in
+    let missed = sym (c .before .meets .ensures) ∙ c .if1 .left in
+    (at .inv .0 ∙ scan-kept p (at .i) (at .n) (at .rest .entries) blank (omega arith) (omega arith) missed, search needs)
 
 returns : tie.Need-returns Inv-loop μ-loop
 returns c =
     let at = c .before .loop in
-    holding _ (omega arith) (omega arith) (sym (at .inv .0 ∙ scan-done (holds (c .before .before .args .rule)) (at .n) (at .rest .entries) (omega arith) (at .i) (omega arith) (omega arith)))
+    let p = holds (c .before .before .args .rule) in
+    let done = scan-done p (at .n) (at .rest .entries) (omega arith) (at .i) (omega arith) (omega arith) in
+    holding _ (omega arith) (omega arith) (sym (at .inv .0 ∙ done))
 
 pub swept-spec : {M : Type 1} → statement M
 swept-spec =

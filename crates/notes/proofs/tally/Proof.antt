@@ -46,21 +46,26 @@ loop-less c = search needs
 
 loop-again : tie.Need-loop-again Inv-loop μ-loop
 loop-again c =
+    let a = c .before .before .before .before .before .args in
     let at = c .before .before .before .before .loop in
-    (omega (arith, count-next (holds (c .before .before .before .before .before .args .rule)) (at .i) (c .before .before .before .before .before .args .t1 .len) (c .before .before .before .before .before .args .t1 .entries) blank (omega arith) (omega arith), ap one (sym (c .before .meets .ensures) ∙ c .if1 .taken)), search needs)
+    let met = ap one (sym (c .before .meets .ensures) ∙ c .if1 .taken) in
+    (omega (arith, count-next (holds (a .rule)) (at .i) (a .t1 .len) (a .t1 .entries) blank (omega arith) (omega arith), met), search needs)
 
 loop-less-2 : tie.Need-loop-less-2 Inv-loop μ-loop
 loop-less-2 c = search needs
 
 loop-again-2 : tie.Need-loop-again-2 Inv-loop μ-loop
 loop-again-2 c =
+    let a = c .before .before .before .before .before .args in
     let at = c .before .before .before .before .loop in
-    (omega (arith, count-next (holds (c .before .before .before .before .before .args .rule)) (at .i) (c .before .before .before .before .before .args .t1 .len) (c .before .before .before .before .before .args .t1 .entries) blank (omega arith) (omega arith), ap one (sym (c .before .meets .ensures) ∙ c .if1 .left)), search needs)
+    let met = ap one (sym (c .before .meets .ensures) ∙ c .if1 .left) in
+    (omega (arith, count-next (holds (a .rule)) (at .i) (a .t1 .len) (a .t1 .entries) blank (omega arith) (omega arith), met), search needs)
 
 returns : tie.Need-returns Inv-loop μ-loop
 returns c =
+    let a = c .before .before .args in
     let at = c .before .loop in
-    omega (arith, count-done (holds (c .before .before .args .rule)) (at .i) (c .before .before .args .t1 .len) (c .before .before .args .t1 .entries) blank (omega arith) (omega arith) (omega arith))
+    omega (arith, count-done (holds (a .rule)) (at .i) (a .t1 .len) (a .t1 .entries) blank (omega arith) (omega arith) (omega arith))
 
 pub tally-spec : {M : Type 1} → statement M
 tally-spec =

@@ -42,8 +42,10 @@ loop-less c = search needs
 loop-again : tie.Need-loop-again Inv-loop μ-loop
 loop-again c =
     let at = c .before .loop in
-    let a = c .before .before .args in
-    (blanked (at .tidy .entries) (listed (a .held)) (a .held .len) (at .i) (omega arith) (omega arith) (omega arith) (at .inv .0), search needs)
+    let a = c .before .before .args in (
+      blanked (at .tidy .entries) (listed (a .held)) (a .held .len) (at .i) (omega arith) (omega arith) (omega arith) (at .inv .0),
+      search needs,
+    )
 
 returns : tie.Need-returns Inv-loop μ-loop
 returns c =
@@ -51,7 +53,8 @@ returns c =
     let a = c .before .before .args in
     let long = full _ (a .held .entries) (c .before .before .good .0 .1 .1 .0 .1 .0 .1) in
     let is = entries-length (a .held) long (omega arith) in
-    blank-end (at .tidy) (listed (a .held)) (at .i) (omega arith) (omega arith) (omega arith) (omega arith) (rw (at .inv .1 .4) (at .inv .0))
+    blank-end (at .tidy) (listed (a .held)) (at .i) (omega arith) (omega arith) (omega arith) (omega arith)
+    (rw (at .inv .1 .4) (at .inv .0))
 
 pub tidied-spec : {M : Type 1} → statement M
 tidied-spec =
