@@ -1,16 +1,15 @@
 -- What whoever holds a log may rely on, in the words of `specs/Reach`. Floors above cite these and never open a definition of this crate.
 -- Assumes nothing.
 use mathlib.Core.Path.{_≡_, refl, sym, ap, _∙_}
-use mathlib.Core.Bool.{true, false, cond, not}
-use mathlib.Core.List.{List, [], _∷_}
-use Prim.Native.Nat.{ℕ, _+_, _-_, _≤_, _<_, max}
+use mathlib.Core.Bool.{true, false, not}
+use mathlib.Core.List.{List, []}
+use Prim.Native.Nat.{ℕ, _+_, _-_, _≤_, _<_}
 use native.Mathlib.Omega.{arith}
 use native.Mathlib.Nat.{le-refl}
-use borrow.Author.Tests.{le-leb, leb-true, lt-leb, lt-ltb, le-ltb, ltb-true, ltb-false, eq-eqb, ne-eqb}
+use borrow.Author.Tests.{le-leb, lt-leb, lt-ltb, ltb-true, ne-eqb}
 use lib.Arith.{lt-of-le-ne}
-use lib.Dec.{eqb, leb, ltb}
+use lib.Dec.{eqb, ltb}
 use lib.ListN.{length, length-take}
-use lib.Seq.{take-append-seam}
 use Rattle.refusal.specs.declared.Refusal.the-variants.{NotWellKept}
 use Rattle.entries.specs.declared.ChangedAttr.{ChangedAttr}
 use Rattle.changes.specs.declared.ChangedAttrs.{ChangedAttrs}
@@ -20,23 +19,26 @@ use Rattle.answers.specs.declared.Told.the-variants as told
 use Rattle.answers.specs.declared.Mark.the-variants as mark
 use Rattle.lists.specs.Search.{some}
 use Rattle.lists.specs.Removal.{sweep}
-use Rattle.entries.specs.Paths.{entry, covers, over, under, upTo, above, since}
-use Rattle.changes.specs.Notes.{newest, entered}
-use Rattle.changes.specs.Logs.{entriesOf, holding, kept, freshLog, identityAfter, watermarkOf, noteOf, afterNote, noted, afterPurge, purged, cleared, marked, newestOf, newestMark, anySince, changedSince, anyTold, pathTold}
-use Rattle.changes.specs.Reach.{carries, reaches, reached, covered, Bounded, Tidy, Came, fresh, note, purge, clear}
-use Rattle.lists.proofs.Bools.{or-left, or-right, split, and-both, and-true, not-so}
+use Rattle.entries.specs.Paths.{entry, withIdentity, covers, over, under, upTo, above, since}
+use Rattle.notes.specs.Notes.{entered}
+use Rattle.notes.specs.Places.{heldAs}
+use Rattle.notes.specs.Reach.{carries, reaches}
+use Rattle.changes.specs.Logs.{entriesOf, holding, emptyLog, kept, freshLog, identityAfter, watermarkOf, noteOf, afterNote, noted, afterPurge, purged, cleared, marked, newestOf, newestMark, anySince, changedSince, anyTold, pathTold}
+use Rattle.changes.specs.Reach.{reached, covered, Bounded, Tidy, Came, fresh, note, purge, clear}
+use Rattle.lists.proofs.Bools.{split, and-true, not-so}
 use Rattle.lists.proofs.Searches.{some-weaken}
 use Rattle.lists.proofs.Removals.{length-swept, stays, was-there}
 use Rattle.changes.proofs.Cases.{kept-fits, kept-next}
 use Rattle.entries.proofs.Covering.{covers-trans, covers-self, renewed-covers, since-covers, upTo-at, above-at}
-use Rattle.changes.proofs.Entering.{entered-has, entered-keeps, entered-old, entered-fits}
+use Rattle.notes.proofs.Laws.{list-held, length-held, none-held, carries-by, reaches-by, reaches-covers, reaches-late}
+use Rattle.notes.proofs.Entering.{newest-above, entered-has, entered-keeps, entered-old, entered-fits}
 
 -- ---- a log and its entries
 
 -- the entries of a log that holds l are l
 pub entries-held : (l : List ChangedAttr) (k : ℕ) → entriesOf (holding l k) ≡ l
 unfolding holding
-entries-held l k = take-append-seam l _
+entries-held l k = list-held l
 
 -- and it goes on from the identity it was given
 pub next-held : (l : List ChangedAttr) (k : ℕ) → holding l k .next ≡ k
@@ -50,18 +52,22 @@ held-tidy l k =
 
 held-kept : (l : List ChangedAttr) (k : ℕ) → length l ≤ 16 → (k ≡ 0 → ⊥) → kept (holding l k) ≡ true
 unfolding holding kept
-held-kept l k fits on = and-true (le-leb (length l) 16 fits) (ap not (ne-eqb k 0 on))
+held-kept l k fits on = and-true (le-leb (heldAs l .len) 16 (omega (arith, length-held l))) (ap not (ne-eqb k 0 on))
 
 entries-fit : (g : ChangedAttrs) → kept g ≡ true → length (entriesOf g) ≤ 16
-entries-fit g h = omega (arith, length-take (g .len) (g .entries), kept-fits g h)
+entries-fit g h = omega (arith, length-take (g .held .len) (g .held .entries), kept-fits g h)
 
 pub fresh-kept : kept freshLog ≡ true
 unfolding kept
 fresh-kept = refl
 
-pub fresh-tidy : Tidy freshLog
+-- a log that holds nothing is the same
+pub empty-held : (k : ℕ) → emptyLog k ≡ holding [] k
 unfolding holding
-fresh-tidy = refl
+empty-held k = rw none-held
+
+pub fresh-tidy : Tidy freshLog
+fresh-tidy = empty-held 1
 
 -- of a well-kept log the watermark is below the next identity
 pub watermark-below : (g : ChangedAttrs) → kept g ≡ true → watermarkOf g < g .next
@@ -106,8 +112,8 @@ module _ (g : ChangedAttrs) (h : kept g ≡ true) where
   purge-answer t = rw (h, purged)
 
   pub clear-answer : cleared g ≡ record { answer = change.Done; log = holding [] (g .next) }
-  unfolding cleared holding
-  clear-answer = rw (h, cleared)
+  unfolding cleared
+  clear-answer = rw (h, cleared) (rw (empty-held (g .next)))
 
   pub mark-answer : marked g ≡ mark.At (watermarkOf g)
   unfolding marked
@@ -172,21 +178,19 @@ module _ (g : ChangedAttrs) (h : kept g ≡ true) (e c a : ℕ) where
 
   -- some entry covers the note with its identity
   pub note-carried : some (carries (noteOf g e c a) (g .next)) (entriesOf (noted g e c a .log)) ≡ true
-  unfolding carries
   note-carried =
       rw noted-entries
       (entered-has (noteOf g e c a) (carries (noteOf g e c a) (g .next))
-      (λ x w. and-true (renewed-covers x (noteOf g e c a) (g .next) ∙ w) (eq-eqb (g .next) (g .next) refl)) (entriesOf g))
+      (λ x w. carries-by (noteOf g e c a) (withIdentity (g .next) x) (g .next)
+      (renewed-covers x (noteOf g e c a) (g .next) ∙ w) refl) (entriesOf g))
 
   -- so does some entry for every path under the note
   pub note-new : (q : ChangedAttr) → covers (noteOf g e c a) q ≡ true → reached (noted g e c a .log) q (g .next) ≡ true
-  unfolding reaches
   note-new q u =
       rw noted-entries
       (entered-has (noteOf g e c a) (reaches q (g .next))
-      (λ x w. and-true
-      (renewed-covers x q (g .next) ∙ covers-trans x (noteOf g e c a) q w u)
-      (le-leb (g .next) (g .next) (le-refl (g .next)))) (entriesOf g))
+      (λ x w. reaches-by q (withIdentity (g .next) x) (g .next)
+      (renewed-covers x q (g .next) ∙ covers-trans x (noteOf g e c a) q w u) (le-refl (g .next))) (entriesOf g))
 
   -- what some entry stood for with identity k or a later one, some entry still does
   pub note-keeps : (q : ChangedAttr) (k : ℕ) → k ≤ g .next → reached g q k ≡ true → reached (noted g e c a .log) q k ≡ true
@@ -222,19 +226,19 @@ module _ (g : ChangedAttrs) (t : ℕ) where
   pub purge-kept : kept g ≡ true → kept (purged g t .log) ≡ true
   purge-kept h =
       purged-by (λ r. kept r ≡ true) h
-      (held-kept (sweep (upTo t) (entriesOf g)) (g .next) (omega (arith, length-swept (upTo t) (entriesOf g), entries-fit g h)) (kept-next g h))
+      (held-kept (sweep (upTo t) (entriesOf g)) (g .next)
+      (omega (arith, length-swept (upTo t) (entriesOf g), entries-fit g h)) (kept-next g h))
 
   pub purge-tidy : Tidy g → Tidy (purged g t .log)
   purge-tidy d = purged-by Tidy d (held-tidy (sweep (upTo t) (entriesOf g)) (g .next))
 
   -- what is stood for with an identity above the threshold stays so
   pub purge-keeps : (q : ChangedAttr) (k : ℕ) → t < k → reached g q k ≡ true → reached (purged g t .log) q k ≡ true
-  unfolding reaches
   purge-keeps q k low r =
       purged-by (λ m. reached m q k ≡ true) r
       (rw (entries-held (sweep (upTo t) (entriesOf g)) (g .next))
       (stays (upTo t) (reaches q k) (entriesOf g)
-      (λ x w. upTo-at t x ∙ lt-leb (x .identity) t (let i = leb-true k (x .identity) (and-both (covers x q) (leb k (x .identity)) w .1) in omega arith)) r))
+      (λ x w. upTo-at t x ∙ lt-leb (x .identity) t (let late = reaches-late q x k w in omega arith)) r))
 
   pub purge-bounded : Bounded g → Bounded (purged g t .log)
   purge-bounded b =
@@ -246,8 +250,7 @@ module _ (g : ChangedAttrs) (t : ℕ) where
 
 module _ (g : ChangedAttrs) where
   cleared-by : (P : ChangedAttrs → Type 0) → P g → P (holding [] (g .next)) → P (cleared g .log)
-  unfolding cleared holding
-  cleared-by P same empty = split (kept g) (λ k. rw (k, cleared) empty) (λ k. rw (k, cleared) same)
+  cleared-by P same empty = split (kept g) (λ k. rw (clear-answer g k) empty) (λ k. rw (clear-refused g k) same)
 
   pub clear-next : cleared g .log .next ≡ g .next
   clear-next = cleared-by (λ r. r .next ≡ g .next) refl (next-held [] (g .next))
@@ -266,8 +269,7 @@ module _ (g : ChangedAttrs) where
 
 module _ (g : ChangedAttrs) (q : ChangedAttr) (k s : ℕ) (low : s < k) (r : reached g q k ≡ true) where
   newer : (x : ChangedAttr) → reaches q k x ≡ true → ltb s (x .identity) ≡ true
-  unfolding reaches
-  newer x w = lt-ltb s (x .identity) (let i = leb-true k (x .identity) (and-both (covers x q) (leb k (x .identity)) w .1) in omega arith)
+  newer x w = lt-ltb s (x .identity) (let late = reaches-late q x k w in omega arith)
 
   -- what is stood for with identity k is a change since every earlier watermark
   pub reached-any : anySince g s ≡ true
@@ -275,41 +277,21 @@ module _ (g : ChangedAttrs) (q : ChangedAttr) (k s : ℕ) (low : s < k) (r : rea
 
   -- and every path under it has changed since then
   pub reached-changed : (e c a : ℕ) → covers q (entry e c a s) ≡ true → changedSince g e c a s ≡ true
-  unfolding reaches
   reached-changed e c a u =
       some-weaken (reaches q k) (since (entry e c a s)) (entriesOf g)
       (λ x w. since-covers (entry e c a s) x
-      ∙ and-true (newer x w) (covers-trans x q (entry e c a s) (and-both (covers x q) (leb k (x .identity)) w .0) u)) r
+      ∙ and-true (newer x w) (covers-trans x q (entry e c a s) (reaches-covers q x k w) u)) r
 
 -- something has changed since an identity exactly where the greatest identity is above it
-newest-above : (s : ℕ) (l : List ChangedAttr) → some (above s) l ≡ ltb s (newest (above 0) l)
-unfolding some newest
-newest-above s [] = sym (le-ltb s 0 (omega arith))
-newest-above s (x ∷ xs) =
-    let n = newest (above 0) xs in
-    let ih = newest-above s xs in
-    let at : cond (above 0 x) (x .identity) 0 ≡ x .identity =
-    split (above 0 x) (λ t. rw t) (λ t. rw t (let z = ltb-false 0 (x .identity) (sym (above-at 0 x) ∙ t) in omega arith)) in
-    split (above s x)
-    (λ t. or-left (some (above s) xs) t
-    ∙ sym (lt-ltb s (max (cond (above 0 x) (x .identity) 0) n) (let w = ltb-true s (x .identity) (sym (above-at s x) ∙ t) in omega arith)))
-    (λ t. let low = ltb-false s (x .identity) (sym (above-at s x) ∙ t) in
-    split (ltb s n)
-    (λ u. or-right (above s x) (ih ∙ u) ∙ sym (lt-ltb s (max (cond (above 0 x) (x .identity) 0) n) (let w = ltb-true s n u in omega arith)))
-    (λ u. rw t (ih ∙ u) ∙ sym (le-ltb s (max (cond (above 0 x) (x .identity) 0) n) (let w = ltb-false s n u in omega arith))))
-
 pub newest-any : (g : ChangedAttrs) (s : ℕ) → anySince g s ≡ ltb s (newestOf g)
 newest-any g s = newest-above s (entriesOf g)
 
 -- to be stood for with some identity is to be covered
 reached-covered : (q : ChangedAttr) (k : ℕ) (g : ChangedAttrs) → reached g q k ≡ true → covered g q ≡ true
-unfolding reaches
-reached-covered q k g r = some-weaken (reaches q k) (λ x. covers x q) (entriesOf g) (λ x w. and-both (covers x q) (leb k (x .identity)) w .0) r
+reached-covered q k g r = some-weaken (reaches q k) (λ x. covers x q) (entriesOf g) (λ x w. reaches-covers q x k w) r
 
 covered-reached : (q : ChangedAttr) (g : ChangedAttrs) → covered g q ≡ true → reached g q 0 ≡ true
-unfolding reaches
-covered-reached q g r =
-    some-weaken (λ x. covers x q) (reaches q 0) (entriesOf g) (λ x w. and-true w (le-leb 0 (x .identity) (omega arith))) r
+covered-reached q g r = some-weaken (λ x. covers x q) (reaches q 0) (entriesOf g) (λ x w. reaches-by q x 0 w (omega arith)) r
 
 -- ---- logs that come from a fresh one
 
@@ -346,8 +328,8 @@ came-bounded (clear {n} {g} w) h = clear-bounded g (came-bounded w h)
 
 -- ---- the students' second mistake: "sixteen places can't cover a seventeenth change"
 
--- In a log of sixteen entries none of which covers the note or is covered by it, the note is covered afterwards, and so is everything that was
--- covered before. The hypotheses are those of the lecture; without them it holds as well.
+-- In a log of sixteen entries none of which covers the note or is covered by it, the note is covered afterwards, and so is everything that
+-- was covered before. The hypotheses are those of the lecture; without them it holds as well.
 pub seventeenth-change : (g : ChangedAttrs) (e c a : ℕ) → kept g ≡ true → length (entriesOf g) ≡ 16
     → some (over (noteOf g e c a)) (entriesOf g) ≡ false → some (under (noteOf g e c a)) (entriesOf g) ≡ false
     → (covered (noted g e c a .log) (noteOf g e c a) ≡ true)

@@ -1,3 +1,2 @@
-pub mod Notes
 pub mod Logs
 pub mod Reach

@@ -1,11 +1,10 @@
 -- The change log as the code holds it, and every public call's answer, as document 01 has it, "Change log" and "Refusal numbers".
 -- Assumes nothing.
-use mathlib.Core.Path.{_≡_}
 use mathlib.Core.Bool.{Bool, not, cond, _&&_}
-use mathlib.Core.List.{List, _++_}
-use Prim.Native.Nat.{ℕ, _+_, _-_, _≤_}
+use mathlib.Core.List.{List}
+use Prim.Native.Nat.{ℕ, _+_, _-_}
 use lib.Dec.{eqb, leb}
-use lib.ListN.{length, take, replicate}
+use lib.ListN.{replicate}
 use Rattle.refusal.specs.declared.Refusal.the-variants.{NotWellKept}
 use Rattle.entries.specs.declared.ChangedAttr.{ChangedAttr}
 use Rattle.changes.specs.declared.ChangedAttrs.{ChangedAttrs}
@@ -20,29 +19,28 @@ use Rattle.answers.specs.declared.Mark.the-variants as mark
 use Rattle.lists.specs.Search.{some}
 use Rattle.lists.specs.Removal.{sweep}
 use Rattle.entries.specs.Paths.{entry, blank, upTo, above, since}
-use Rattle.changes.specs.Notes.{capacity, newest, entered}
+use Rattle.notes.specs.Notes.{capacity, newest, entered}
+use Rattle.notes.specs.Places.{listed, heldAs}
 
 -- the entries that a log holds, in order
 abbrev pub entriesOf : ChangedAttrs → List ChangedAttr
-entriesOf g = take (g .len) (g .entries)
+entriesOf g = listed (g .held)
 
 -- the log that holds the entries, with blank places beyond them
 unfoldable pub holding : List ChangedAttr → ℕ → ChangedAttrs
-holding l next = record { entries = l ++ replicate (capacity - length l) blank; len = length l; next = next }
+holding l next = record { held = heldAs l; next = next }
 
--- a log whose entries are l, whatever stands beyond them: what the steps of a note hand on
-pub record Holds (g : ChangedAttrs) (l : List ChangedAttr) : Type 0 where
-  pub lives : entriesOf g ≡ l
-  pub counts : g .len ≡ length l
-  pub fits : g .len ≤ 16
+-- the log that holds none
+abbrev pub emptyLog : ℕ → ChangedAttrs
+emptyLog next = record { held = record { entries = replicate capacity blank; len = 0 }; next = next }
 
 -- "at most 16 entries; next identity not 0"
 unfoldable pub kept : ChangedAttrs → Bool
-kept g = leb (g .len) capacity && not (eqb (g .next) 0)
+kept g = leb (g .held .len) capacity && not (eqb (g .next) 0)
 
 -- "Identities start at 1"
 abbrev pub freshLog : ChangedAttrs
-freshLog = record { entries = replicate capacity blank; len = 0; next = 1 }
+freshLog = emptyLog 1
 
 -- "the identity after 2^64 − 1 is 1."
 unfoldable pub identityAfter : ℕ → ℕ
@@ -81,7 +79,7 @@ purged g t = changedTo g (afterPurge g t)
 
 -- the answer of emptying: no entry is left, and identities go on
 unfoldable pub cleared : ChangedAttrs → Changed
-cleared g = changedTo g (record { entries = replicate capacity blank; len = 0; next = g .next })
+cleared g = changedTo g (emptyLog (g .next))
 
 -- the answer to the watermark
 unfoldable pub marked : ChangedAttrs → Mark

@@ -1,24 +1,16 @@
--- The words in which the log's laws are told to the floors above: which changes an entry, and a log, still stand for.
+-- The words in which the log's laws are told to the floors above: which changes a log still stands for.
 -- Assumes nothing.
 use mathlib.Core.Path.{_≡_}
-use mathlib.Core.Bool.{Bool, false, _&&_}
+use mathlib.Core.Bool.{Bool, false}
 use Prim.Native.Nat.{ℕ, zero, suc}
-use lib.Dec.{eqb, leb}
 use Rattle.entries.specs.declared.ChangedAttr.{ChangedAttr}
 use Rattle.changes.specs.declared.ChangedAttrs.{ChangedAttrs}
 use Rattle.lists.specs.Search.{some}
 use Rattle.entries.specs.Paths.{covers, above}
+use Rattle.notes.specs.Reach.{reaches}
 use Rattle.changes.specs.Logs.{entriesOf, holding, freshLog, watermarkOf, noted, purged, cleared}
 
--- the entry covers q with the identity k
-unfoldable pub carries : ChangedAttr → ℕ → ChangedAttr → Bool
-carries q k x = covers x q && eqb (x .identity) k
-
--- the entry covers q with the identity k or a later one
-unfoldable pub reaches : ChangedAttr → ℕ → ChangedAttr → Bool
-reaches q k x = covers x q && leb k (x .identity)
-
--- some entry of the log does
+-- some entry of the log covers q with the identity k or a later one
 abbrev pub reached : ChangedAttrs → ChangedAttr → ℕ → Bool
 reached g q k = some (reaches q k) (entriesOf g)
 

@@ -1,5 +1,5 @@
--- Entries of the change log, when one covers another, and the coarser one that can stand for it, as document 01 has it, "Change log". What a
--- log does with them is not said here.
+-- Entries of the change log, when one covers another, and the coarser one that can stand for it, as document 01 has it, "Change log". What
+-- a log does with them is not said here.
 -- Assumes nothing.
 use mathlib.Core.Bool.{Bool, not, cond, _&&_, _||_}
 use Prim.Native.Nat.{ℕ}

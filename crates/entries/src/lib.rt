@@ -1,5 +1,5 @@
-// One entry of the change log: document 01, "Change log". When an entry covers another, which entries a scan is after, and the coarser entry
-// that a group of them becomes. The log that holds them is crate changes' matter.
+// One entry of the change log: document 01, "Change log". When an entry covers another, which entries a scan is after, and the coarser
+// entry that a group of them becomes. The array that holds them is crate notes' matter.
 ghost use mathlib.Core.Path.{_≡_};
 ghost use Rattle.entries.specs.Paths.{fieldCovers, fieldMatches, covers, matches, candidate, holds};
 

@@ -73,10 +73,11 @@ fn value(name: &[u8], seconds: u16) {
 // The example's name and the log's entries, each as endpoint, cluster, attribute and identity.
 fn log(name: &[u8], log: ChangedAttrs) {
     io::write_all(STDOUT_FILENO, name);
-    let n = log.len;
+    let held = log.held;
+    let n = held.len;
     for i in 0..16usize {
         if i < n {
-            entry(log.entries[i]);
+            entry(held.entries[i]);
         }
     }
     io::write_all(STDOUT_FILENO, b"\n");

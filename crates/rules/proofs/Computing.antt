@@ -7,7 +7,8 @@ use Rattle.time.specs.Instants.{later}
 use Rattle.time.specs.Intervals.{backoffSecs, dueAfterSecs, grantedMaxSecs}
 use Rattle.time.specs.Moments.{sinceReport, retryAt, expired}
 use Rattle.entries.specs.Paths.{fieldCovers, covers, fieldMatches, matches, over, under, above, since, upTo, candidate}
-use Rattle.changes.specs.Notes.{refreshed, placed, groupOf, larger, largestFrom, largest, newest, folded, crowded, inserted, entered}
+use Rattle.notes.specs.Notes.{refreshed, placed, groupOf, larger, largestFrom, largest, newest, folded, crowded, inserted, entered}
+use Rattle.notes.specs.Places.{heldAs}
 use Rattle.changes.specs.Logs.{holding, kept, identityAfter, noted, purged, cleared}
 use Rattle.subscription.specs.When.{gateOf, allowedOf, dueOf, isDue, pending, along, reportable, nextOf, isOver}
 use Rattle.subscription.specs.Life.{priming, resumed, opened, storedWith, closed, givesUp, keeps, failed}
@@ -17,5 +18,5 @@ use Rattle.rules.specs.States.{counted, reportOpen, hasId, wellKept}
 use Rattle.rules.specs.Machine.{firstOf, objections, refusal, added, resumedTo, notedIn, ready, reported, completedIn, removed, clearedIn, purgedIn, attributeIn, sendIfEmptyIn, nextInstantIn, anyReportableIn, keepAliveIn, statisticsIn, hasSubscriptionIn, roundFrom, roundIn, act, step, run, answers}
 
 unfoldable pub allRules : ℕ
-unfolding some count first changeFirst firstBy distinct leastBy lastOf initOf refilled sweepFor sweep takeOut takeOutNewest later backoffSecs dueAfterSecs sinceReport retryAt expired fieldCovers covers fieldMatches matches over under above since upTo refreshed placed candidate groupOf larger largestFrom largest newest folded crowded inserted entered holding kept identityAfter noted purged cleared gateOf allowedOf dueOf isDue pending along reportable nextOf isOver priming resumed opened storedWith closed givesUp keeps failed chosen counted reportOpen hasId wellKept firstOf objections refusal added resumedTo notedIn ready reported completedIn removed clearedIn purgedIn attributeIn sendIfEmptyIn nextInstantIn anyReportableIn keepAliveIn statisticsIn hasSubscriptionIn roundFrom roundIn act step run answers grantedMaxSecs afterNotes afterSeventeen
+unfolding some count first changeFirst firstBy distinct leastBy lastOf initOf refilled sweepFor sweep takeOut takeOutNewest later backoffSecs dueAfterSecs sinceReport retryAt expired fieldCovers covers fieldMatches matches over under above since upTo refreshed placed candidate groupOf larger largestFrom largest newest folded crowded inserted entered heldAs holding kept identityAfter noted purged cleared gateOf allowedOf dueOf isDue pending along reportable nextOf isOver priming resumed opened storedWith closed givesUp keeps failed chosen counted reportOpen hasId wellKept firstOf objections refusal added resumedTo notedIn ready reported completedIn removed clearedIn purgedIn attributeIn sendIfEmptyIn nextInstantIn anyReportableIn keepAliveIn statisticsIn hasSubscriptionIn roundFrom roundIn act step run answers grantedMaxSecs afterNotes afterSeventeen
 allRules = 0

@@ -168,9 +168,9 @@ purgeShut = (call.complete 1 0, call.completed true false) ∷ (call.note 3 6 1,
 abbrev purgeEmpty : Diary
 purgeEmpty = (call.remove All 9, call.yesNo true) ∷ (call.purge, call.done) ∷ []
 
-pub purged-so : (after purgeOpen one .log .len ≡ 1)
-    × (after purgeShut (after purgeOpen one) .log .len ≡ 1)
-    × (after purgeEmpty (after purgeShut (after purgeOpen one)) .log .len ≡ 0)
+pub purged-so : (after purgeOpen one .log .held .len ≡ 1)
+    × (after purgeShut (after purgeOpen one) .log .held .len ≡ 1)
+    × (after purgeEmpty (after purgeShut (after purgeOpen one)) .log .held .len ≡ 0)
     × GoesBy purgeEmpty (after purgeShut (after purgeOpen one))
 unfolding allRules
 purged-so = (refl, refl, refl, refl)

@@ -75,7 +75,7 @@ table capacity cancel stored opens log =
     record { capacity = capacity; next = 9; cancel = cancel; stored = stored; opens = opens; log = log }
 
 abbrev logOf : ℕ → ℕ → ChangedAttrs
-logOf len next = record { entries = freshLog .entries; len = len; next = next }
+logOf len next = record { held = record { entries = freshLog .held .entries; len = len }; next = next }
 
 -- "capacity 1..80; counted places at most capacity; at most 16 entries; next identity not 0; live ids distinct; live fabrics not 0; at most one
 -- open report; a cancel reason only with it": at its bounds each holds

@@ -9,6 +9,7 @@ use answers::Told;
 use changes::ChangedAttrs;
 use entries::ChangedAttr;
 use libc::STDOUT_FILENO;
+use notes::Held;
 use refusal::Refusal;
 use round::Rounding;
 use subscription::Choice;
@@ -118,8 +119,10 @@ fn start(place: Subscription, rest: ChangedAttr) -> Table {
     Table {
         places: [place; 80],
         log: ChangedAttrs {
-            entries: entries,
-            len: 1,
+            held: Held {
+                entries: entries,
+                len: 1,
+            },
             next: 2,
         },
         stored: 0,
@@ -178,7 +181,7 @@ fn with_capacity(mut t: Table, capacity: u8) -> Table {
 
 fn with_log(mut t: Table, len: usize, next: u64) -> Table {
     let mut log = t.log;
-    log.len = len;
+    log.held.len = len;
     log.next = next;
     t.log = log;
     t
@@ -427,8 +430,8 @@ fn same(a: Table, b: Table) -> bool
     let y = b.log;
     let held = all(
         same_places(a, b),
-        same_entries(x, y),
-        x.len == y.len,
+        same_entries(x.held, y.held),
+        x.held.len == y.held.len,
         x.next == y.next,
     );
     let counts = all(
@@ -455,7 +458,7 @@ fn same_places(a: Table, b: Table) -> bool
     true
 }
 
-fn same_entries(a: ChangedAttrs, b: ChangedAttrs) -> bool
+fn same_entries(a: Held, b: Held) -> bool
     ensures { λ r. ⌜ (r ≡ true → a .entries ≡ b .entries) ⌝ }
 {
     let mut i: usize = 0;

@@ -33,8 +33,10 @@ returns c =
     λ i. record {
       places = at1 .before .before .before .before .before .before .same-places .ensures (held .0) i;
       log = record {
-        entries = at1 .before .before .before .before .before .same-entries .ensures (held .1 .0) i;
-        len = eqb-true (a .log .len) (b .log .len) (held .1 .1 .0) i;
+        held = record {
+          entries = at1 .before .before .before .before .before .same-entries .ensures (held .1 .0) i;
+          len = eqb-true (a .log .held .len) (b .log .held .len) (held .1 .1 .0) i;
+        };
         next = eqb-true (a .log .next) (b .log .next) (held .1 .1 .1) i;
       };
       stored = eqb-true (a .stored) (b .stored) (counts .1 .0) i;

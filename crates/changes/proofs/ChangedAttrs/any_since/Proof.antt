@@ -1,38 +1,25 @@
--- `any_since` meets its contract: `find` stops within the log exactly where some entry is newer.
+-- `any_since` meets its contract: the entries tell whether one is newer.
 -- Assumes nothing.
-use mathlib.Core.Bool.{true}
-use mathlib.Core.Path.{_≡_, sym, ap, _∙_}
-use Prim.Native.Nat.{_-_}
+use mathlib.Core.Path.{sym, ap, _∙_}
 use borrow.Author.Needs.{needs}
 use Rattle.answers.specs.declared.Told.the-variants as told
-use Rattle.changes.specs.Logs.{entriesOf, kept, anyTold}
-use Rattle.entries.specs.Paths.{above, since}
-use Rattle.changes.proofs.Cases.{kept-fits}
-use Rattle.changes.proofs.Steps.{found, entries-length}
-use Rattle.lists.proofs.Arrays.{full}
+use Rattle.changes.specs.Logs.{anyTold}
 use Rattle.changes.proofs.ChangedAttrs.any_since.Statement.{statement}
 use Rattle.changes.proofs.ChangedAttrs.any_since.Tie as tie
 
 is-kept-requires : tie.Need-is-kept-requires
 is-kept-requires c κs = search needs
 
-find-requires : tie.Need-find-requires
-find-requires c κs =
-    let k : kept (c .before .before .args .self) ≡ true = sym (c .before .is-kept .ensures) ∙ c .if1 .taken in
-    kept-fits (c .before .before .args .self) k
+any-requires : tie.Need-any-requires
+any-requires c κs = search needs
 
 returns : tie.Need-returns
 unfolding anyTold
-returns c =
-    let self = c .before .before .before .before .args .self in
-    let long = full _ (self .entries) (c .before .before .before .before .good .0 .1 .1 .0 .1 .0 .1) in
-    let k : kept self ≡ true = sym (c .before .before .before .is-kept .ensures) ∙ c .before .before .if1 .taken in
-    rw (k, anyTold)
-    (ap told.Is (found (above (c .before .before .before .before .args .since)) (entriesOf self) (entries-length self long (kept-fits self k)) (c .before .find .ensures)))
+returns c = rw (sym (c .before .before .is-kept .ensures) ∙ c .before .if1 .taken, anyTold) (ap told.Is (c .any .ensures))
 
 returns-2 : tie.Need-returns-2
 unfolding anyTold
 returns-2 c = rw (sym (c .before .is-kept .ensures) ∙ c .if1 .left, anyTold)
 
 pub any-since-spec : {M : Type 1} → statement M
-any-since-spec = tie.close (tie.spec is-kept-requires find-requires returns returns-2)
+any-since-spec = tie.close (tie.spec is-kept-requires any-requires returns returns-2)

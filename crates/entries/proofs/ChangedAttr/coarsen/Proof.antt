@@ -26,7 +26,8 @@ enum-told c = search needs
 returns-2 : tie.Need-returns-2
 unfolding candidate
 returns-2 c =
-    rw (c .before .before .before .enum-told .given .1, ne-eqb _ _ (c .before .before .before .before .before .if1 .left), eq-eqb _ _ (c .if2 .taken), candidate)
+    let endpoint = ne-eqb _ _ (c .before .before .before .before .before .if1 .left) in
+    rw (c .before .before .before .enum-told .given .1, endpoint, eq-eqb _ _ (c .if2 .taken), candidate)
 
 enum-told-2 : tie.Need-enum-told-2
 enum-told-2 c = search needs
@@ -34,7 +35,8 @@ enum-told-2 c = search needs
 returns-3 : tie.Need-returns-3
 unfolding candidate
 returns-3 c =
-    rw (c .before .before .before .enum-told .given .1, ne-eqb _ _ (c .before .before .before .before .before .if1 .left), ne-eqb _ _ (c .if2 .left), candidate)
+    let endpoint = ne-eqb _ _ (c .before .before .before .before .before .if1 .left) in
+    rw (c .before .before .before .enum-told .given .1, endpoint, ne-eqb _ _ (c .if2 .left), candidate)
 
 returns-4 : tie.Need-returns-4
 unfolding candidate

@@ -27,12 +27,16 @@ field-covers-requires-3 c κs = search needs
 returns : tie.Need-returns
 unfolding covers
 returns c =
-    rw (sym (c .before .before .before .before .field-covers .ensures) ∙ c .before .before .before .if1 .taken, sym (c .before .before .field-covers2 .ensures) ∙ c .before .if2 .taken, covers) (c .field-covers3 .ensures)
+    let endpoint = sym (c .before .before .before .before .field-covers .ensures) ∙ c .before .before .before .if1 .taken in
+    let cluster = sym (c .before .before .field-covers2 .ensures) ∙ c .before .if2 .taken in
+    rw (endpoint, cluster, covers) (c .field-covers3 .ensures)
 
 returns-2 : tie.Need-returns-2
 unfolding covers
 returns-2 c =
-    rw (sym (c .before .before .before .field-covers .ensures) ∙ c .before .before .if1 .taken, sym (c .before .field-covers2 .ensures) ∙ c .if2 .left, covers)
+    let endpoint = sym (c .before .before .before .field-covers .ensures) ∙ c .before .before .if1 .taken in
+    let cluster = sym (c .before .field-covers2 .ensures) ∙ c .if2 .left in
+    rw (endpoint, cluster, covers)
 
 returns-3 : tie.Need-returns-3
 unfolding covers

@@ -27,12 +27,16 @@ field-matches-requires-3 c κs = search needs
 returns : tie.Need-returns
 unfolding matches
 returns c =
-    rw (sym (c .before .before .before .before .field-matches .ensures) ∙ c .before .before .before .if1 .taken, sym (c .before .before .field-matches2 .ensures) ∙ c .before .if2 .taken, matches) (c .field-matches3 .ensures)
+    let endpoint = sym (c .before .before .before .before .field-matches .ensures) ∙ c .before .before .before .if1 .taken in
+    let cluster = sym (c .before .before .field-matches2 .ensures) ∙ c .before .if2 .taken in
+    rw (endpoint, cluster, matches) (c .field-matches3 .ensures)
 
 returns-2 : tie.Need-returns-2
 unfolding matches
 returns-2 c =
-    rw (sym (c .before .before .before .field-matches .ensures) ∙ c .before .before .if1 .taken, sym (c .before .field-matches2 .ensures) ∙ c .if2 .left, matches)
+    let endpoint = sym (c .before .before .before .field-matches .ensures) ∙ c .before .before .if1 .taken in
+    let cluster = sym (c .before .field-matches2 .ensures) ∙ c .if2 .left in
+    rw (endpoint, cluster, matches)
 
 returns-3 : tie.Need-returns-3
 unfolding matches

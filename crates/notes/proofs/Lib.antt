@@ -1,0 +1,5 @@
+pub mod Steps
+pub mod Cases
+pub mod Laws
+pub mod Groups
+pub mod Entering
