@@ -20,7 +20,7 @@ use Rattle.table.specs.Agreement.{newLeaves}
 use Rattle.demands.specs.Histories.{replyTo, tableAfter, replies}
 use Rattle.rules.specs.Calls as call
 use Rattle.rules.proofs.Acts.{run-none, run-more, answers-none, answers-more}
-use Rattle.rules.proofs.Kept.{step-well-kept, fresh-well-kept, never-seven}
+use Rattle.rules.proofs.Kept.{step-well-kept, run-well-kept, fresh-well-kept, never-seven}
 use Rattle.table.proofs.NewAgrees.{new-agrees, new-lasts, fresh-view}
 use Rattle.table.proofs.AdmissionAgrees.{add-agrees, resume-agrees, note-agrees}
 use Rattle.table.proofs.ReportAgrees.{report-agrees}
@@ -87,14 +87,14 @@ module _ {P : Table → Type 0} (lasting : Lasting P) (begins : (capacity : ℕ)
   history-lasts [] t h = h
   history-lasts (op ∷ ops) t h = history-lasts ops (replyTo op t .table) (reply-lasts op t h)
 
-fresh-whole : (capacity : ℕ) → Whole (freshTable capacity)
+pub fresh-whole : (capacity : ℕ) → Whole (freshTable capacity)
 fresh-whole capacity = fresh-tidy capacity .whole
 
 -- the state after a call is the machine's
-reply-state : (op : Op) (t : Table) → Whole t → wellKept (view t) ≡ true → view (replyTo op t .table) ≡ step op (view t) .state
+pub reply-state : (op : Op) (t : Table) → Whole t → wellKept (view t) ≡ true → view (replyTo op t .table) ≡ step op (view t) .state
 reply-state op t w h = ap (λ o. o .state) (reply-agrees t w h op)
 
-reply-well : (op : Op) (t : Table) → Whole t → wellKept (view t) ≡ true → wellKept (view (replyTo op t .table)) ≡ true
+pub reply-well : (op : Op) (t : Table) → Whole t → wellKept (view t) ≡ true → wellKept (view (replyTo op t .table)) ≡ true
 reply-well op t w h = ap wellKept (reply-state op t w h) ∙ step-well-kept op (view t) h
 
 pub history-states : (ops : List Op) (t : Table) → Whole t → wellKept (view t) ≡ true → view (tableAfter ops t) ≡ run ops (view t)
@@ -104,6 +104,9 @@ history-states (op ∷ ops) t w h =
     history-states ops (replyTo op t .table) (reply-lasts whole-lasts fresh-whole op t w) (reply-well op t w h)
     ∙ ap (run ops) (reply-state op t w h)
     ∙ sym (run-more op ops (view t))
+
+pub history-well : (ops : List Op) (t : Table) → Whole t → wellKept (view t) ≡ true → wellKept (view (tableAfter ops t)) ≡ true
+history-well ops t w h = ap wellKept (history-states ops t w h) ∙ run-well-kept ops (view t) h
 
 pub history-answers : (ops : List Op) (t : Table) → Whole t → wellKept (view t) ≡ true → replies ops t ≡ answers ops (view t)
 unfolding replies
@@ -118,7 +121,7 @@ history-answers (op ∷ ops) t w h =
 -- ---- from a fresh table of document 01
 
 module _ (capacity : ℕ) (able : capacityFits capacity ≡ true) (ops : List Op) where
-  begun : wellKept (view (freshTable capacity)) ≡ true
+  pub begun : wellKept (view (freshTable capacity)) ≡ true
   begun = ap wellKept (fresh-view capacity) ∙ fresh-well-kept capacity able
 
   -- the code's table stands for the machine's state

@@ -1,1 +1,3 @@
 pub mod Histories
+pub mod Playing
+pub mod Unheard

@@ -8,3 +8,5 @@ pub mod Waiting
 pub mod Playing
 pub mod RoundHears
 pub mod Rounds
+pub mod Witness
+pub mod Sharp

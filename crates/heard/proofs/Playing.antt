@@ -28,6 +28,27 @@ use Rattle.rules.proofs.Sound.{kept-sound}
 use Rattle.rules.proofs.Turns.{report-step, report-silent}
 use Rattle.heard.proofs.Waiting.{Begun, waiting, one-fewer, turn-begun, this-one-spoke, others-wait, waiting-first, both-fewer}
 
+-- ---- a round, by whom its report hands out
+
+pub play-nil : (at : Settings) (s : State) → play at [] s ≡ record { out = []; state = s; silent = saysNothing (step (call.report at) s .answer) }
+unfolding play
+play-nil at s = refl
+
+module _ (at : Settings) (u : Turn) (us : List Turn) (s : State) where
+  pub play-nobody : nobody (handedId (step (call.report (withEvents at (u .events))) s .answer)) ≡ true
+      → play at (u ∷ us) s ≡ record { out = []; state = s; silent = saysNothing (step (call.report (withEvents at (u .events))) s .answer) }
+  unfolding play
+  play-nobody e = rw (e, play)
+
+  pub play-somebody : nobody (handedId (step (call.report (withEvents at (u .events))) s .answer)) ≡ false
+      → play at (u ∷ us) s
+      ≡ also (whom (handedId (step (call.report (withEvents at (u .events))) s .answer)))
+      (play at us
+      (turned (whom (handedId (step (call.report (withEvents at (u .events))) s .answer))) u
+      (step (call.report (withEvents at (u .events))) s .state)))
+  unfolding play
+  play-somebody e = rw (e, play)
+
 -- ---- a round, by whether somebody is reportable
 
 module _ (at : Settings) (s : State) (well : wellKept s ≡ true) (shut : reportOpen s ≡ false) where
