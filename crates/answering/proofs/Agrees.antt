@@ -28,7 +28,7 @@ use Rattle.table.specs.declared.Completion.the-variants as completion
 use Rattle.table.specs.declared.HandOut.the-variants as handOut
 use Rattle.table.specs.declared.Hearing.the-variants as hearing
 use Rattle.table.specs.declared.Moment.the-variants as moment
-use Rattle.table.specs.Views.{freshTable, view, kept}
+use Rattle.table.specs.Views.{view, kept}
 use Rattle.table.specs.Tidiness.{Whole}
 use Rattle.table.specs.Calls.{newTable, addTo, noteIn, reportIn, completeIn, attributeAt, nextAt}
 use Rattle.table.specs.Agreement.{handOutAnswer, admissionAnswer, hearingAnswer, completionAnswer, toldAnswer, momentAnswer, newAnswer, newLeaves}

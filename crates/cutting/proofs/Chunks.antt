@@ -12,7 +12,7 @@ use Rattle.cutting.proofs.Steps.{after-append, found-append}
 use Rattle.cutting.proofs.Finding.{cut-found}
 
 -- an input behind a chunk
-found-behind : (r : Reading) (held s t : List ℕ) → foundIn r held (s ++ t) ≡ found r held s ++ foundIn (after r held s .0) (after r held s .1) t
+pub found-behind : (r : Reading) (held s t : List ℕ) → foundIn r held (s ++ t) ≡ found r held s ++ foundIn (after r held s .0) (after r held s .1) t
 unfolding foundIn
 found-behind r held s t =
     rw (found-append r held s t, after-append r held s t)

@@ -10,7 +10,7 @@ use lib.Dec.{eqb, leb, ltb}
 use lib.ListN.{length, length-append, take, set}
 use lib.Seq.{take-nil}
 use Rattle.fields.specs.Bytes.{CR, LF}
-use Rattle.cutting.specs.Steps.{spoiltOf, waitingOf, holdingOf, stillOf, endedOf, endingOf, endsOf, stepOf, scanFrom, scanOf, textIn, after, found}
+use Rattle.cutting.specs.Steps.{spoiltOf, waitingOf, holdingOf, stillOf, endedOf, endingOf, endsOf, stepOf, closeOf, scanFrom, scanOf, textIn, after, found}
 use Rattle.cutting.specs.declared.Reading.{Reading}
 use Rattle.cutting.specs.declared.Stepped.{Stepped}
 use Rattle.cutting.specs.declared.Scanned.{Scanned}
@@ -102,7 +102,7 @@ module _ (r : Reading) (held : List ℕ) (b : ℕ) where
   abbrev Counts : Stepped × List ℕ → Type 0
   Counts p = p .0 .reading .number ≡ r .number + length (textIn (p .1) (p .0 .found))
 
-  step-counts : Counts (stepOf r held b)
+  pub step-counts : Counts (stepOf r held b)
   unfolding stepOf
   step-counts = go (leb (r .most) (r .number)) (eqb b LF) (eqb b CR) (r .cr) (ltb (r .len) (length held))
     where
@@ -128,3 +128,17 @@ number-counts r held (b ∷ s) =
     let p = step-counts r held b in
     let q = number-counts (stepOf r held b .0 .reading) (stepOf r held b .1) s in
     omega (arith, p, q, length-append (textIn (stepOf r held b .1) (stepOf r held b .0 .found)) (found (stepOf r held b .0 .reading) (stepOf r held b .1) s))
+
+-- and so does the one behind a last line
+pub close-counts : (r : Reading) (held : List ℕ) → closeOf r .reading .number ≡ r .number + length (textIn held (closeOf r .found))
+unfolding closeOf
+close-counts r held = go (leb (r .most) (r .number)) (r .cr) (r .bad) (eqb (r .len) 0)
+  where
+    go : (stop waits bad none : Bool) →
+        let t : Stepped = cond stop (stillOf r) (cond waits (endedOf r Bad) (cond bad (endedOf r Bad) (cond none (stillOf r) (endedOf r (Whole (r .len)))))) in
+        t .reading .number ≡ r .number + length (textIn held (t .found))
+    go true waits bad none = omega arith
+    go false true bad none = omega arith
+    go false false true none = omega arith
+    go false false false true = omega arith
+    go false false false false = omega arith

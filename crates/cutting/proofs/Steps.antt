@@ -122,3 +122,27 @@ module _ (i : ℕ) (r : Reading) (held : List ℕ) (b : ℕ) (s : List ℕ) (t :
 pub scan-none : (i : ℕ) (r : Reading) (held : List ℕ) → scanFrom i r held [] ≡ (record { reading = r; found = Nothing; used = i }, held)
 unfolding scanFrom
 scan-none i r held = refl
+
+-- no byte, and one byte more
+pub after-none : (r : Reading) (held : List ℕ) → after r held [] ≡ (r, held)
+unfolding after
+after-none r held = refl
+
+pub after-next : (r : Reading) (held : List ℕ) (b : ℕ) (s : List ℕ) → after r held (b ∷ s) ≡ after (stepOf r held b .0 .reading) (stepOf r held b .1) s
+unfolding after
+after-next r held b s = refl
+
+pub none-found : (r : Reading) (held : List ℕ) → found r held [] ≡ []
+unfolding found
+none-found r held = refl
+
+pub next-found : (r : Reading) (held : List ℕ) (b : ℕ) (s : List ℕ)
+    → found r held (b ∷ s)
+    ≡ textIn (stepOf r held b .1) (stepOf r held b .0 .found) ++ found (stepOf r held b .0 .reading) (stepOf r held b .1) s
+unfolding found
+next-found r held b s = refl
+
+-- at the end of the input
+pub none-left : (r : Reading) (held : List ℕ) → foundIn r held [] ≡ textIn held (closeOf r .found)
+unfolding foundIn found after
+none-left r held = refl

@@ -1,6 +1,7 @@
 -- A new table is the machine's: fresh, or refused for its capacity alone, and then the one that was there stays.
 -- Assumes nothing.
 use mathlib.Core.Path.{_≡_, sym, ap, _∙_}
+use mathlib.Core.Bool.{true}
 use mathlib.Core.List.{[]}
 use Prim.Native.Nat.{ℕ, _-_}
 use native.Mathlib.Omega.{arith}
@@ -20,6 +21,11 @@ use Rattle.rules.proofs.Acts.{new-made, new-refused}
 pub fresh-view : (capacity : ℕ) → view (freshTable capacity) ≡ fresh capacity
 fresh-view capacity =
     ap (λ l. withOnes (fresh capacity) [] l) (drop-of-length-le (replicate 80 blank) {i = 80 - 0} (omega (arith, length-replicate 80 blank)))
+
+-- a capacity that is one makes a fresh table
+pub new-makes : (capacity : ℕ) → capacityFits capacity ≡ true → newTable capacity .table ≡ freshTable capacity
+unfolding newTable
+new-makes capacity h = rw (h, newTable)
 
 pub new-agrees : (t : Table) (capacity : ℕ) → newSays t (newTable capacity) ≡ step (call.new capacity) (view t)
 unfolding newTable

@@ -1,1 +1,4 @@
 pub mod Scanning
+pub mod Telling
+pub mod Taking
+pub mod Driving

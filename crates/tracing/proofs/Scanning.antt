@@ -29,6 +29,10 @@ use Rattle.tracing.specs.declared.Ran.{Ran}
 use Rattle.tracing.specs.declared.Session.{Session}
 use Rattle.tracing.specs.Runs.{Work, sessionOf, ranTo, worked, begun, lineFound, moved, textOf, answeredTo, told, byteIn, runFrom, finishOf}
 
+-- where a run stands, by the loop's variables
+abbrev pub standing : Table → Reading → List ℕ → List ℕ → ℕ → ℕ → Work
+standing t r held out used wrote = record { session = sessionOf t r; held = held; out = out; used = used; wrote = wrote }
+
 -- there is room for an answer
 abbrev pub Room : Work → Bool
 Room x = leb (x .wrote + answerRoom) (length (x .out))
@@ -42,7 +46,7 @@ pub run-done : (x : Work) → runFrom x [] ≡ x
 unfolding runFrom
 run-done x = refl
 
-run-next : (x : Work) (b : ℕ) (s : List ℕ) → Room x ≡ true → runFrom x (b ∷ s) ≡ runFrom (byteIn x b) s
+pub run-next : (x : Work) (b : ℕ) (s : List ℕ) → Room x ≡ true → runFrom x (b ∷ s) ≡ runFrom (byteIn x b) s
 unfolding runFrom
 run-next x b s h = rw (h, runFrom)
 
@@ -75,7 +79,7 @@ module _ (i : ℕ) (x : Work) (b : ℕ) (s : List ℕ) (room : Room x ≡ true) 
       ∙ ap (λ (f : Found). runFrom (told (moved x (t .reading) held′ 1) f) s) (ends-not (t .found) e)
       ∙ ih
       ∙ rw n
-      (ap (λ (u : ℕ). runFrom (told (record { session = sessionOf (x .session .table) (p .0 .reading); held = p .1; out = x .out; used = u; wrote = x .wrote }) (p .0 .found)) (drop (p .0 .used - (i + 1)) s)) m)
+      (ap (λ (n : ℕ). runFrom (told (standing (x .session .table) (p .0 .reading) (p .1) (x .out) n (x .wrote)) (p .0 .found)) (drop (p .0 .used - (i + 1)) s)) m)
 
   abbrev y : Work
   y = moved x (t .reading) held′ 1
@@ -98,10 +102,6 @@ ended : (x : Work) (f : Found) → endsOf f ≡ true → told x f ≡ answeredTo
 ended x found.Nothing e = absurd (clash e refl)
 ended x found.Bad e = refl
 ended x (found.Whole n) e = refl
-
--- where a run stands, by the loop's variables
-abbrev pub standing : Table → Reading → List ℕ → List ℕ → ℕ → ℕ → Work
-standing t r held out used wrote = record { session = sessionOf t r; held = held; out = out; used = used; wrote = wrote }
 
 pub stopped-at : {t : Table} {r : Reading} {held out : List ℕ} {used wrote : ℕ} {q : Ran} → q ≡ ranTo t r used wrote
     → worked q held out ≡ standing t r held out used wrote

@@ -31,7 +31,11 @@ same-length c = c .before .before .put-answer .kept .0
 
 returns-2 : tie.Need-returns-2
 returns-2 c =
-    finish-answered _ _ _ _ (c .before .before .before .before .before .before .before .before .before .before .close .ensures) (sym (c .before .before .before .before .before .before .before .before .ends .ensures) ∙ not-false _ (c .before .before .before .before .before .before .before .if1 .left)) _ _ _ _ (c .before .before .before .before .before .before .line-in .ensures) (c .before .before .before .before .before .answer .ensures) (c .before .before .put-answer .ensures)
+    let d = c .before .before .before .before .before in let e = d .before .before .before in
+    finish-answered _ _ _ _ (e .before .before .close .ensures) (sym (e .ends .ensures) ∙ not-false _ (d .before .before .if1 .left)) _ _ _ _
+    (d .before .line-in .ensures)
+    (d .answer .ensures)
+    (c .before .before .put-answer .ensures)
 
 pub finish-spec : {M : Type 1} → statement M
 finish-spec =

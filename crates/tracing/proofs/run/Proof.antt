@@ -28,8 +28,9 @@ room : (c : tie.After-scan Inv-loop μ-loop) →
     let k = c .before .before .before .before .before .before .loop in leb (k .wrote + answerRoom) (length (k .out)) ≡ true
 room c = sym (c .before .before .before .before .has-room .ensures) ∙ not-false _ (c .before .before .before .if1 .left)
 
-within : (c : tie.After-scan Inv-loop μ-loop) → c .before .before .before .before .before .before .loop .used + c .scan .result .used ≤ length (c .before .before .before .before .before .before .before .before .before .before .before .before .args .s .now)
-within c = turn-within _ _ _ (c .before .before .before .before .before .before .before .before .before .before .before .before .args .s .now) _ _ (c .scan .ensures) (c .before .before .before .before .before .before .loop .inv .1 .0)
+within : (c : tie.After-scan Inv-loop μ-loop) →
+    let d = c .before .before .before .before .before .before in d .loop .used + c .scan .result .used ≤ length (d .before .before .before .before .before .before .args .s .now)
+within c = let d = c .before .before .before .before .before .before in turn-within _ _ _ (d .before .before .before .before .before .before .args .s .now) _ _ (c .scan .ensures) (d .loop .inv .1 .0)
 
 loop-holds : tie.Need-loop-holds Inv-loop μ-loop
 loop-holds c = (refl, (search needs, refl, refl))
