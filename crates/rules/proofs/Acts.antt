@@ -80,6 +80,10 @@ module _ (s : State) where
   unfolding act completedIn
   act-complete id o = refl
 
+  pub act-completed : (id o : ℕ) → act (call.complete id o) s ≡ completedIn id o s
+  unfolding act
+  act-completed id o = refl
+
   pub act-attribute : (id e c a : ℕ)
       → act (call.attribute id e c a) s
       ≡ outcome (call.yesNo (neverReported (openWith id s .reported) || changedSince (s .log) e c a (openWith id s .seen))) s

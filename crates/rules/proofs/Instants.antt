@@ -23,6 +23,7 @@ use Rattle.rules.specs.Calls.{Op}
 use Rattle.rules.specs.Histories.{lateRetry, retriesFit}
 use Rattle.rules.specs.Machine.{nextInstantIn, anyReportableIn, run}
 use Rattle.rules.proofs.Least.{before-last, with-stored}
+use Rattle.rules.proofs.Lives.{lives}
 use Rattle.rules.proofs.Nobody.{nobody-ever}
 
 -- The next instant has come exactly where something is reportable, before the last instant, and at it too if something is stored.
@@ -35,15 +36,19 @@ any-is-next now events kind s fit (inr h) = with-stored now events kind s h (not
 fitting : (x : Subscription) → x .retry .ms ≤ lastInstant .ms → lateRetry x ≡ false
 fitting x h = le-ltb (lastInstant .ms) (x .retry .ms) h
 
--- On every history from a fresh table each retry is an instant.
-pub retries-fit : (c : ℕ) (ops : List Op) → retriesFit (run ops (fresh c)) ≡ true
-retries-fit c ops =
-    let none =
+-- Where each retry is an instant, it stays so over every history.
+pub retries-last : (ops : List Op) (s : State) → lives lateRetry s ≡ 0 → lives lateRetry (run ops s) ≡ 0
+retries-last =
     nobody-ever lateRetry
     (λ request id mark events now. fitting (priming request id mark events now) (omega (arith, priming-retry request id mark events now)))
     (λ request id mark events. fitting (resumed request id mark events) (omega (arith, resumed-retry request id mark events)))
     (λ x mark events now h. rw (opened-retry x mark events now) h)
-    (λ x o. fitting (closed x o) (closed-retry x o)) ops (fresh c) (omega (arith, count-nil lateRetry)) in
+    (λ x o. fitting (closed x o) (closed-retry x o))
+
+-- On every history from a fresh table each retry is an instant.
+pub retries-fit : (c : ℕ) (ops : List Op) → retriesFit (run ops (fresh c)) ≡ true
+retries-fit c ops =
+    let none = retries-last ops (fresh c) (omega (arith, count-nil lateRetry)) in
     ap not (none-count lateRetry (run ops (fresh c) .stored) (omega arith))
 
 -- So there the above holds with no more to ask.
