@@ -22,6 +22,11 @@ module _ {A B : Type 0} (f : A → B) where
   count-map p [] = refl
   count-map p (x ∷ xs) = ap (λ n. one (p (f x)) + n) (count-map p xs)
 
+  pub first-map : (p : B → Bool) (d : A) (l : List A) → firstBy p (f d) (map f l) ≡ f (firstBy (λ x. p (f x)) d l)
+  unfolding firstBy
+  first-map p d [] = refl
+  first-map p d (x ∷ xs) = split (p (f x)) (λ t. rw (t, firstBy)) (λ t. rw (t, firstBy) (first-map p d xs))
+
   -- ---- swap removal
 
   last-map : (x : A) (l : List A) → lastOf (f x) (map f l) ≡ f (lastOf x l)

@@ -14,12 +14,13 @@ use Rattle.refusal.specs.declared.Refusal.{Refusal}
 use Rattle.time.specs.declared.Instant.{Instant}
 use Rattle.time.specs.declared.KeepAlive.{KeepAlive}
 use Rattle.subscription.specs.declared.Choice.{Choice}
+use Rattle.subscription.specs.declared.Subscription.{Subscription}
 use Rattle.subscription.specs.declared.Request.{Request}
 use Rattle.subscription.specs.declared.Settings.{Settings}
 use Rattle.lists.specs.Search.{some, count, distinct}
 use Rattle.rules.specs.Machine.{takesState, refusal, Objection, firstOf, objections, notOpen, badReason, badOutcome}
 use Rattle.changes.specs.Logs.{kept}
-use Rattle.rules.specs.States.{State, idLive, isPriming, counted, isReport, reportOpen, capacityFits, fabricZero, wellKept}
+use Rattle.rules.specs.States.{State, hasId, idLive, isPriming, counted, isReport, reportOpen, capacityFits, fabricZero, wellKept}
 use Rattle.rules.specs.Calls.{Op}
 use Rattle.rules.specs.Calls as call
 
@@ -30,6 +31,10 @@ counted-is s = refl
 pub report-open-is : (s : State) → reportOpen s ≡ some isReport (s .opens)
 unfolding reportOpen
 report-open-is s = refl
+
+pub has-id-is : (id : ℕ) (x : Subscription) → hasId id x ≡ eqb (x .id) id
+unfolding hasId
+has-id-is id x = refl
 
 pub well-kept-is : (s : State)
     → wellKept s
