@@ -5,3 +5,13 @@ pub mod SameNotes
 pub mod SameTime
 pub mod SameSubscription
 pub mod Opens
+pub mod SameRemoval
+pub mod Alike
+pub mod SameAdmission
+pub mod SameReports
+pub mod SameCompletion
+pub mod SameClearing
+pub mod SameQuestions
+pub mod SameRounds
+pub mod Identities
+pub mod SameHistories

@@ -46,6 +46,11 @@ context-taken id l = newest-taken-map contextOf (holdsId id) l ∙ ap (λ p. map
 
 -- ---- the slot
 
+-- a report opened is in it
+pub slot-report : (x : Subscription) (l : List Subscription) → isReport x ≡ true → reportingOf (x ∷ l) ≡ just (subscriptionOf x)
+unfolding reportingOf
+slot-report x l h = ap (λ b. cond b (just (subscriptionOf x)) (reportingOf l)) h
+
 -- with no report it is empty
 slot-empty : (l : List Subscription) → count isReport l ≡ 0 → reportingOf l ≡ none
 unfolding reportingOf count

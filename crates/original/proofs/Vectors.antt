@@ -160,11 +160,14 @@ module _ {A : Type 0} where
       go true = refl
       go false = refl
 
+module _ {A B : Type 0} where
   -- ---- the least
 
-  pub least-is : (f : A → ℕ) (m : ℕ) (l : List A) → minFrom m (map f l) ≡ leastBy f m l
+  pub least-is : (f : A → B) (g : B → ℕ) (m : ℕ) (l : List A) → minFrom m (map g (map f l)) ≡ leastBy (λ x. g (f x)) m l
   unfolding minFrom leastBy
-  least-is f m [] = refl
-  least-is f m (x ∷ xs) =
-      let turn : min m (f x) ≡ min (f x) m = omega arith in
-      least-is f (min m (f x)) xs ∙ ap (λ k. leastBy f k xs) turn ∙ sym (least-start f (f x) m xs)
+  least-is f g m [] = refl
+  least-is f g m (x ∷ xs) =
+      let turn : min m (g (f x)) ≡ min (g (f x)) m = omega arith in
+      least-is f g (min m (g (f x))) xs
+      ∙ ap (λ k. leastBy (λ y. g (f y)) k xs) turn
+      ∙ sym (least-start (λ y. g (f y)) (g (f x)) m xs)

@@ -53,6 +53,10 @@ reported-none at s h = rw (h, reported)
 -- ---- what the other calls do, one by one
 
 module _ (s : State) where
+  pub act-new : (capacity : ℕ) → act (call.new capacity) s ≡ outcome (call.number capacity) (fresh capacity)
+  unfolding act
+  act-new capacity = refl
+
   pub act-add : (request : Request) (events : ℕ) (now : Instant)
       → act (call.add request events now) s
       ≡ outcome (call.number (s .next))
