@@ -6,7 +6,7 @@ use mathlib.Core.List.{List, []}
 use Prim.Native.Nat.{ℕ, _+_, _-_, _≤_, _<_}
 use native.Mathlib.Omega.{arith}
 use native.Mathlib.Nat.{le-refl}
-use borrow.Author.Tests.{le-leb, lt-leb, lt-ltb, ltb-true, ne-eqb}
+use borrow.Author.Tests.{le-leb, lt-leb, lt-ltb, ltb-true, eqb-false, ne-eqb}
 use lib.Arith.{lt-of-le-ne}
 use lib.Dec.{eqb, ltb}
 use lib.ListN.{length, length-take}
@@ -54,7 +54,8 @@ held-kept : (l : List ChangedAttr) (k : ℕ) → length l ≤ 16 → (k ≡ 0 �
 unfolding holding kept
 held-kept l k fits on = and-true (le-leb (heldAs l .len) 16 (omega (arith, length-held l))) (ap not (ne-eqb k 0 on))
 
-entries-fit : (g : ChangedAttrs) → kept g ≡ true → length (entriesOf g) ≤ 16
+-- at most sixteen
+pub entries-fit : (g : ChangedAttrs) → kept g ≡ true → length (entriesOf g) ≤ 16
 entries-fit g h = omega (arith, length-take (g .held .len) (g .held .entries), kept-fits g h)
 
 pub fresh-kept : kept freshLog ≡ true
@@ -140,6 +141,14 @@ after-last = refl
 pub after-others : (k : ℕ) → k < 18446744073709551615 → identityAfter k ≡ k + 1
 unfolding identityAfter
 after-others k h = rw (ne-eqb k 18446744073709551615 (λ e. absurd (omega arith)), identityAfter)
+
+-- it is at most 2^64 − 1, where the one before it was
+pub after-most : (k : ℕ) → k ≤ 18446744073709551615 → identityAfter k ≤ 18446744073709551615
+unfolding identityAfter
+after-most k h =
+    split (eqb k 18446744073709551615)
+    (λ t. rw (t, identityAfter) (omega arith))
+    (λ t. rw (t, identityAfter) (omega (arith, lt-of-le-ne h (eqb-false k 18446744073709551615 t))))
 
 after-some : (k : ℕ) → identityAfter k ≡ 0 → ⊥
 unfolding identityAfter

@@ -2,13 +2,15 @@
 -- laws and open no definition of this crate.
 -- Assumes nothing.
 use mathlib.Core.Path.{_≡_, refl, sym, _∙_}
-use mathlib.Core.Bool.{true, _&&_}
+use mathlib.Core.Bool.{true, not, cond, _&&_, _||_}
 use mathlib.Core.Logic.{_⊎_, ⊎-elim}
 use Prim.Native.Nat.{ℕ}
 use borrow.Author.Tests.{eqb-true, eqb-false, eq-eqb, ne-eqb}
 use lib.Dec.{eqb, leb, ltb}
 use Rattle.entries.specs.declared.ChangedAttr.{ChangedAttr}
-use Rattle.entries.specs.Paths.{withIdentity, allWild, wildEndpoint, wildCluster, wildAttr, fieldCovers, fieldMatches, covers, matches, over, under, upTo, above, since}
+use Rattle.entries.specs.declared.Level.the-variants.{Cluster, Endpoint}
+use Rattle.entries.specs.declared.Coarser.the-variants.{To, Nothing}
+use Rattle.entries.specs.Paths.{entry, withIdentity, allWild, wildEndpoint, wildCluster, wildAttr, fieldCovers, fieldMatches, covers, matches, over, under, upTo, above, since, candidate}
 use Rattle.lists.proofs.Bools.{split, and-both, and-true, or-either, or-left}
 
 module _ (wild : ℕ) where
@@ -102,3 +104,39 @@ upTo-at t x = refl
 pub above-at : (s : ℕ) (x : ChangedAttr) → above s x ≡ ltb s (x .identity)
 unfolding above
 above-at s x = refl
+
+-- ---- the definitions as tests on fields
+
+pub field-covers-at : (wild a b : ℕ) → fieldCovers wild a b ≡ (eqb a wild || (not (eqb b wild) && eqb a b))
+unfolding fieldCovers
+field-covers-at wild a b = refl
+
+pub covers-at : (a b : ChangedAttr)
+    → covers a b
+    ≡ (fieldCovers wildEndpoint (a .endpoint) (b .endpoint)
+    && (fieldCovers wildCluster (a .cluster) (b .cluster) && fieldCovers wildAttr (a .attr) (b .attr)))
+unfolding covers
+covers-at a b = refl
+
+pub field-matches-at : (wild a b : ℕ) → fieldMatches wild a b ≡ (eqb a wild || eqb a b)
+unfolding fieldMatches
+field-matches-at wild a b = refl
+
+pub since-at : (path x : ChangedAttr)
+    → since path x
+    ≡ (ltb (path .identity) (x .identity)
+    && (fieldMatches wildEndpoint (x .endpoint) (path .endpoint)
+    && (fieldMatches wildCluster (x .cluster) (path .cluster) && fieldMatches wildAttr (x .attr) (path .attr))))
+unfolding since matches
+since-at path x = refl
+
+pub candidate-cluster : (x : ChangedAttr)
+    → candidate Cluster x
+    ≡ cond (eqb (x .endpoint) wildEndpoint || eqb (x .cluster) wildCluster) Nothing (To (entry (x .endpoint) (x .cluster) wildAttr 0))
+unfolding candidate
+candidate-cluster x = refl
+
+pub candidate-endpoint : (x : ChangedAttr)
+    → candidate Endpoint x ≡ cond (eqb (x .endpoint) wildEndpoint) Nothing (To (entry (x .endpoint) wildCluster wildAttr 0))
+unfolding candidate
+candidate-endpoint x = refl

@@ -5,3 +5,4 @@ pub mod Arrays
 pub mod Orders
 pub mod Places
 pub mod Parts
+pub mod Maps

@@ -204,7 +204,8 @@ module _ {A : Type 0} where
       ∙ ap (λ b. leb (f x) n || b) (least-most f m n xs)
       ∙ sym (or-assoc (leb (f x) n) (some (λ x. leb (f x) n) xs) (leb m n))
 
-  least-start : (f : A → ℕ) (m n : ℕ) (l : List A) → min m (leastBy f n l) ≡ leastBy f (min m n) l
+  -- a number more to begin with
+  pub least-start : (f : A → ℕ) (m n : ℕ) (l : List A) → min m (leastBy f n l) ≡ leastBy f (min m n) l
   unfolding leastBy
   least-start f m n [] = refl
   least-start f m n (x ∷ xs) =

@@ -1,18 +1,20 @@
 -- The cases of the definitions of `specs/`, each as an equation under the test that leads to it.
 -- Assumes nothing.
-use mathlib.Core.Path.{_≡_}
-use mathlib.Core.Bool.{true, false}
+use mathlib.Core.Path.{_≡_, refl}
+use mathlib.Core.Bool.{Bool, true, false, cond}
 use mathlib.Core.List.{List, [], _∷_, _++_}
-use Prim.Native.Nat.{_≤_, _<_}
+use Prim.Native.Nat.{_≤_, _<_, max}
 use borrow.Author.Tests.{lt-ltb, le-ltb}
+use lib.Dec.{ltb}
 use lib.ListN.{length}
 use Rattle.entries.specs.declared.ChangedAttr.{ChangedAttr}
+use Rattle.entries.specs.declared.Level.{Level}
 use Rattle.entries.specs.declared.Level.the-variants.{Cluster, Endpoint}
 use Rattle.notes.specs.declared.Group.{Group}
-use Rattle.lists.specs.Search.{some}
+use Rattle.lists.specs.Search.{some, changeFirst}
 use Rattle.lists.specs.Removal.{sweep}
-use Rattle.entries.specs.Paths.{allWild, over, under}
-use Rattle.notes.specs.Notes.{refreshed, placed, largest, folded, crowded, inserted, entered}
+use Rattle.entries.specs.Paths.{withIdentity, allWild, blank, over, under, candidate}
+use Rattle.notes.specs.Notes.{refreshed, placed, sized, groupOf, larger, largestFrom, largest, newest, folded, crowded, inserted, entered}
 
 module _ (n : ChangedAttr) (l : List ChangedAttr) where
   pub placed-found : some (over n) l ≡ true → refreshed n l ≡ placed n l
@@ -52,3 +54,38 @@ module _ (n : ChangedAttr) (l : List ChangedAttr) where
       → allWild (n .identity) ∷ [] ≡ crowded n l
   unfolding crowded
   crowded-wild e f h k = rw (le-ltb _ _ (rw e at h), le-ltb _ _ (rw f at k), crowded)
+
+  -- ---- the pieces of a fold
+
+  pub refreshed-is : refreshed n l ≡ changeFirst (over n) (withIdentity (n .identity)) l
+  unfolding refreshed
+  refreshed-is = refl
+
+  pub folded-is : folded n l ≡ sweep (under n) l ++ (withIdentity (newest (under n) l) n ∷ [])
+  unfolding folded
+  folded-is = refl
+
+pub newest-nil : (p : ChangedAttr → Bool) → newest p [] ≡ 0
+unfolding newest
+newest-nil p = refl
+
+pub newest-cons : (p : ChangedAttr → Bool) (x : ChangedAttr) (l : List ChangedAttr)
+    → newest p (x ∷ l) ≡ max (cond (p x) (x .identity) 0) (newest p l)
+unfolding newest
+newest-cons p x l = refl
+
+module _ (level : Level) (l : List ChangedAttr) where
+  pub largest-is : largest level l ≡ largestFrom level l (record { by = blank; size = 1 }) l
+  unfolding largest
+  largest-is = refl
+
+  pub largest-over : (best : Group) → largestFrom level l best [] ≡ best
+  unfolding largestFrom
+  largest-over best = refl
+
+  pub largest-more : (best : Group) (x : ChangedAttr) (xs : List ChangedAttr)
+      → largestFrom level l best (x ∷ xs)
+      ≡ largestFrom level l
+      (cond (ltb (best .size) (sized l (candidate level x) .size)) (sized l (candidate level x)) best) xs
+  unfolding largestFrom larger groupOf
+  largest-more best x xs = refl

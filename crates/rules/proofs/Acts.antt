@@ -53,6 +53,10 @@ reported-none at s h = rw (h, reported)
 -- ---- what the other calls do, one by one
 
 module _ (s : State) where
+  pub act-new : (capacity : ℕ) → act (call.new capacity) s ≡ outcome (call.number capacity) (fresh capacity)
+  unfolding act
+  act-new capacity = refl
+
   pub act-add : (request : Request) (events : ℕ) (now : Instant)
       → act (call.add request events now) s
       ≡ outcome (call.number (s .next))
@@ -79,6 +83,10 @@ module _ (s : State) where
       (withCancel (withOnes s (storedAfter (openWith id s) o s) (takeOutNewest (hasId id) (s .opens))) (cond (isReport (openWith id s)) 0 (s .cancel)))
   unfolding act completedIn
   act-complete id o = refl
+
+  pub act-completed : (id o : ℕ) → act (call.complete id o) s ≡ completedIn id o s
+  unfolding act
+  act-completed id o = refl
 
   pub act-attribute : (id e c a : ℕ)
       → act (call.attribute id e c a) s

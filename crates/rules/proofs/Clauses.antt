@@ -14,6 +14,7 @@ use Rattle.refusal.specs.declared.Refusal.{Refusal}
 use Rattle.time.specs.declared.Instant.{Instant}
 use Rattle.time.specs.declared.KeepAlive.{KeepAlive}
 use Rattle.subscription.specs.declared.Choice.{Choice}
+use Rattle.subscription.specs.declared.Subscription.{Subscription}
 use Rattle.subscription.specs.declared.Request.{Request}
 use Rattle.subscription.specs.declared.Settings.{Settings}
 use Rattle.subscription.specs.declared.Subscription.{Subscription}
@@ -63,6 +64,10 @@ first-none = refl
 -- ---- what each call that takes a state objects to, in order
 
 module _ (s : State) where
+  pub new-objects : (capacity : ℕ) → objections (call.new capacity) s ≡ ((not (capacityFits capacity), BadArgument) ∷ [])
+  unfolding objections
+  new-objects capacity = refl
+
   pub add-objects : (request : Request) (events : ℕ) (now : Instant)
       → objections (call.add request events now) s
       ≡ ((eqb (request .fabric) 0, BadArgument) ∷ (leb (s .capacity) (counted s), Full) ∷ (idLive (s .next) s, IdLive) ∷ [])

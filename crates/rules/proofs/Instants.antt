@@ -25,6 +25,7 @@ use Rattle.rules.specs.Calls.{Op}
 use Rattle.rules.specs.Histories.{lateRetry, retriesFit}
 use Rattle.rules.specs.Machine.{nextUp, openWith, nextInstantIn, anyReportableIn, run}
 use Rattle.rules.proofs.Least.{before-last, with-stored}
+use Rattle.rules.proofs.Lives.{lives}
 use Rattle.rules.proofs.Nobody.{Spares, nobody-ever}
 
 -- The next instant has come exactly where something is reportable, before the last instant, and at it too if something is stored.
@@ -57,10 +58,14 @@ none-late (call.statistics fabric) s = tt
 none-late (call.hasSubscription fabric peer) s = tt
 none-late (call.round at outcomes ids) s = tt
 
+-- Where each retry is an instant, it stays so over every history.
+pub retries-last : (ops : List Op) (s : State) → lives lateRetry s ≡ 0 → lives lateRetry (run ops s) ≡ 0
+retries-last = nobody-ever lateRetry none-late
+
 -- On every history from a fresh table each retry is an instant.
 pub retries-fit : (c : ℕ) (ops : List Op) → retriesFit (run ops (fresh c)) ≡ true
 retries-fit c ops =
-    let none = nobody-ever lateRetry none-late ops (fresh c) (omega (arith, count-nil lateRetry)) in
+    let none = retries-last ops (fresh c) (omega (arith, count-nil lateRetry)) in
     ap not (none-count lateRetry (run ops (fresh c) .stored) (omega arith))
 
 -- So there the above holds with no more to ask.

@@ -30,19 +30,20 @@ pub no-objection : (op : Op) (s : State) → refusal op s ≡ none → firstOf (
 unfolding refusal
 no-objection op s e = unobjected (takesState op && not (wellKept s)) NotWellKept (objections op s) e .1
 
--- some objection has the number 7
-abbrev ofSeven : List Objection → Bool
-ofSeven [] = false
-ofSeven ((holds, why) ∷ rest) = eqb (numberOf why) 7 || ofSeven rest
+-- some objection has the number
+abbrev pub ofNumber : ℕ → List Objection → Bool
+ofNumber n [] = false
+ofNumber n ((holds, why) ∷ rest) = eqb (numberOf why) n || ofNumber n rest
 
-pub no-seven : (l : List Objection) → ofSeven l ≡ false → numbered 7 (firstOf l) ≡ false
+-- where none has it, the refusal has another
+pub no-number : (n : ℕ) (l : List Objection) → ofNumber n l ≡ false → numbered n (firstOf l) ≡ false
 unfolding firstOf
-no-seven [] h = refl
-no-seven ((true, why) ∷ rest) h = or-neither (eqb (numberOf why) 7) (ofSeven rest) h .0
-no-seven ((false, why) ∷ rest) h = no-seven rest (or-neither (eqb (numberOf why) 7) (ofSeven rest) h .1)
+no-number n [] h = refl
+no-number n ((true, why) ∷ rest) h = or-neither (eqb (numberOf why) n) (ofNumber n rest) h .0
+no-number n ((false, why) ∷ rest) h = no-number n rest (or-neither (eqb (numberOf why) n) (ofNumber n rest) h .1)
 
 -- each reason in the table of objections has another number
-pub other-numbers : (op : Op) (s : State) → ofSeven (objections op s) ≡ false
+pub other-numbers : (op : Op) (s : State) → ofNumber 7 (objections op s) ≡ false
 unfolding objections
 other-numbers (call.new capacity) s = refl
 other-numbers (call.add request events now) s = refl

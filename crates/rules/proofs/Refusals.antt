@@ -14,7 +14,7 @@ use Rattle.rules.specs.Calls.{Op}
 use Rattle.rules.specs.Numbers.{refusalOf}
 use Rattle.rules.specs.Histories.{numbered}
 use Rattle.rules.specs.Machine.{Outcome, firstOf, objections, takesState, refusal, outcome, act, stepBy, step}
-use Rattle.rules.proofs.Objections.{no-seven, other-numbers, act-unrefused}
+use Rattle.rules.proofs.Objections.{no-number, other-numbers, act-unrefused}
 
 -- A refused call answers its refusal and leaves the state as it was given.
 pub refused-alters-nothing : (op : Op) (s : State) (why : Refusal) → refusal op s ≡ just why → step op s ≡ outcome (call.refused why) s
@@ -42,7 +42,7 @@ unfolding refusal firstOf
 seven-exactly op s =
     split (takesState op && not (wellKept s))
     (λ t. rw (t, firstOf))
-    (λ t. rw (t, firstOf) (no-seven (objections op s) (other-numbers op s)))
+    (λ t. rw (t, firstOf) (no-number 7 (objections op s) (other-numbers op s)))
 
 -- A call is answered by its refusal, and by none where it acts.
 pub same-refusal : (op : Op) (s : State) → refusalOf (step op s .answer) ≡ refusal op s

@@ -2,7 +2,7 @@
 -- Assumes nothing.
 use mathlib.Core.Path.{_≡_, refl}
 use mathlib.Core.Bool.{Bool, true, false, cond}
-use Prim.Native.Nat.{ℕ, _+_, _*_, _-_, _≤_, _<_, min, max}
+use Prim.Native.Nat.{ℕ, _+_, _*_, _-_, _/_, _^_, _≤_, _<_, min, max}
 use native.Mathlib.Omega.{arith}
 use borrow.Author.Tests.{le-leb, leb-true, lt-leb}
 use lib.Dec.{leb}
@@ -12,7 +12,7 @@ use Rattle.time.specs.declared.Later.the-variants.{At, Overflow}
 use Rattle.time.specs.declared.KeepAlive.{KeepAlive}
 use Rattle.time.specs.declared.KeepAlive.the-variants.{Default, Icd}
 use Rattle.time.specs.Instants.{instant, firstInstant, lastInstant, later, orElse, neverReported}
-use Rattle.time.specs.Intervals.{backoffSecs, dueAfterSecs}
+use Rattle.time.specs.Intervals.{backoffSecs, dueAfterSecs, icdMaxSecs, grantedMaxSecs}
 use Rattle.time.specs.Moments.{sinceReport, retryAt, expired}
 
 -- the pause before a retry is never shorter than two seconds
@@ -108,3 +108,26 @@ since-most from secs = go (neverReported from)
 pub retry-most : (opened : Instant) (fails longest : ℕ) → retryAt opened fails longest .ms ≤ lastInstant .ms
 unfolding retryAt
 retry-most opened fails longest = else-most opened lastInstant (backoffSecs fails longest) (omega arith)
+
+-- ---- the intervals, as numbers
+
+pub backoff-is : (fails longest : ℕ) → backoffSecs fails longest ≡ min (2 * 2 ^ min (fails - 1) 15) (max longest 2)
+unfolding backoffSecs
+backoff-is fails longest = refl
+
+pub due-halfway : (longest : ℕ) → dueAfterSecs Default longest ≡ longest - longest / 2
+unfolding dueAfterSecs
+due-halfway longest = refl
+
+pub due-before-the-end : (longest : ℕ) → dueAfterSecs Icd longest ≡ longest - min 3 (longest / 2)
+unfolding dueAfterSecs
+due-before-the-end longest = refl
+
+pub icd-max-is : (idle floor : ℕ) → icdMaxSecs idle floor ≡ min (max idle (floor + 3)) 65535
+unfolding icdMaxSecs
+icd-max-is idle floor = refl
+
+pub granted-is : (request floor lower upper : ℕ)
+    → grantedMaxSecs request floor lower upper ≡ max (max (min request upper) lower) (min (floor + 10) 65535)
+unfolding grantedMaxSecs
+granted-is request floor lower upper = refl

@@ -1,0 +1,17 @@
+pub mod Vectors
+pub mod SameEntries
+pub mod SameGroups
+pub mod SameNotes
+pub mod SameTime
+pub mod SameSubscription
+pub mod Opens
+pub mod SameRemoval
+pub mod Alike
+pub mod SameAdmission
+pub mod SameReports
+pub mod SameCompletion
+pub mod SameClearing
+pub mod SameQuestions
+pub mod SameRounds
+pub mod Identities
+pub mod SameHistories

@@ -1,0 +1,10 @@
+pub mod Std
+pub mod Time
+pub mod Entries
+pub mod Log
+pub mod Subscription
+pub mod Contexts
+pub mod Table
+pub mod Calls
+pub mod Likeness
+pub mod Demand
