@@ -29,7 +29,7 @@ use Rattle.lists.proofs.Bools.{split, and-true, not-so}
 use Rattle.lists.proofs.Searches.{some-weaken}
 use Rattle.lists.proofs.Removals.{length-swept, stays, was-there}
 use Rattle.changes.proofs.Cases.{kept-fits, kept-next}
-use Rattle.entries.proofs.Covering.{covers-trans, covers-self, renewed-covers, since-covers, upTo-at, above-at}
+use Rattle.entries.proofs.Covering.{covers-trans, covers-self, path-covers, since-covers, upTo-at, above-at}
 use Rattle.notes.proofs.Laws.{list-held, length-held, none-held, carries-by, reaches-by, reaches-covers, reaches-late}
 use Rattle.notes.proofs.Entering.{newest-above, entered-has, entered-keeps, entered-old, entered-fits}
 
@@ -191,7 +191,7 @@ module _ (g : ChangedAttrs) (h : kept g ≡ true) (e c a : ℕ) where
       rw noted-entries
       (entered-has (noteOf g e c a) (carries (noteOf g e c a) (g .next))
       (λ x w. carries-by (noteOf g e c a) (withIdentity (g .next) x) (g .next)
-      (renewed-covers x (noteOf g e c a) (g .next) ∙ w) refl) (entriesOf g))
+      (path-covers (g .next) (g .next) x (noteOf g e c a) ∙ w) refl) (entriesOf g))
 
   -- so does some entry for every path under the note
   pub note-new : (q : ChangedAttr) → covers (noteOf g e c a) q ≡ true → reached (noted g e c a .log) q (g .next) ≡ true
@@ -199,7 +199,7 @@ module _ (g : ChangedAttrs) (h : kept g ≡ true) (e c a : ℕ) where
       rw noted-entries
       (entered-has (noteOf g e c a) (reaches q (g .next))
       (λ x w. reaches-by q (withIdentity (g .next) x) (g .next)
-      (renewed-covers x q (g .next) ∙ covers-trans x (noteOf g e c a) q w u) (le-refl (g .next))) (entriesOf g))
+      (path-covers (g .next) (q .identity) x q ∙ covers-trans x (noteOf g e c a) q w u) (le-refl (g .next))) (entriesOf g))
 
   -- what some entry stood for with identity k or a later one, some entry still does
   pub note-keeps : (q : ChangedAttr) (k : ℕ) → k ≤ g .next → reached g q k ≡ true → reached (noted g e c a .log) q k ≡ true

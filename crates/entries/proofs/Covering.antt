@@ -87,12 +87,7 @@ module _ (n x : ChangedAttr) where
   unfolding since
   since-covers = rw (matches-covers x n)
 
-  -- the identity is no part of the path
-  pub renewed-covers : (k : ℕ) → covers (withIdentity k n) x ≡ covers n x
-  unfolding covers
-  renewed-covers k = refl
-
--- covering is a matter of the paths
+-- covering is a matter of the paths: the identities are no part of them
 pub path-covers : (j k : ℕ) (a b : ChangedAttr) → covers (withIdentity j a) (withIdentity k b) ≡ covers a b
 unfolding covers
 path-covers j k a b = refl

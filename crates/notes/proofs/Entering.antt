@@ -21,7 +21,7 @@ use Rattle.notes.specs.Reach.{reaches}
 use Rattle.lists.proofs.Bools.{split, clash, and-both, or-either, or-left, or-right}
 use Rattle.lists.proofs.Searches.{some-append, some-front, some-end, some-weaken, some-tells, some-by, some-unchanged, some-changed, some-changing, length-changed}
 use Rattle.lists.proofs.Removals.{length-swept, stays, was-there}
-use Rattle.entries.proofs.Covering.{covers-self, covers-trans, wild-covers, over-covers, under-covers, renewed-covers, above-at}
+use Rattle.entries.proofs.Covering.{covers-self, covers-trans, wild-covers, over-covers, under-covers, path-covers, above-at}
 use Rattle.notes.proofs.Laws.{reaches-by, reaches-covers, reaches-late}
 use Rattle.notes.proofs.Groups.{largest-covers, folded-room}
 
@@ -119,7 +119,7 @@ module _ (n : ChangedAttr) where
   module _ (q : ChangedAttr) (k : ℕ) (late : k ≤ n .identity) where
     -- an entry that covers q stands for it with the note's identity too
     renewed-reaches : (x : ChangedAttr) → covers x q ≡ true → reaches q k (withIdentity (n .identity) x) ≡ true
-    renewed-reaches x h = reaches-by q (withIdentity (n .identity) x) k (renewed-covers x q (n .identity) ∙ h) late
+    renewed-reaches x h = reaches-by q (withIdentity (n .identity) x) k (path-covers (n .identity) (q .identity) x q ∙ h) late
 
     refreshed-keeps : (l : List ChangedAttr) → some (reaches q k) l ≡ true → some (reaches q k) (refreshed n l) ≡ true
     unfolding refreshed
@@ -148,7 +148,7 @@ module _ (n : ChangedAttr) where
         → reaches q k (withIdentity (newest (under by) l) by) ≡ true
     folded-end by l h =
         reaches-by q (withIdentity (newest (under by) l) by) k
-        (renewed-covers by q (newest (under by) l) ∙ some-tells (λ x. reaches q k x && under by x) l (coarser by) h)
+        (path-covers (newest (under by) l) (q .identity) by q ∙ some-tells (λ x. reaches q k x && under by x) l (coarser by) h)
         (newest-least (under by) (λ x. reaches q k x && under by x) k l
         (λ x e. let w = and-both _ _ e in (w .1, reaches-late q x k (w .0))) h)
 
