@@ -38,7 +38,9 @@ pub fn answer(table: Table, line: Line) -> Answered
     ensures { λ r. ⌜ r ≡ answerIn table line ⌝ }
 {
     match line {
-        Line::New(capacity) => renewed(table, capacity),
+        Line::New(capacity) => {
+            return renewed(table, capacity);
+        }
         Line::Add {
             now,
             fabric,
@@ -47,55 +49,65 @@ pub fn answer(table: Table, line: Line) -> Answered
             max,
             events,
             rx,
-        } => added(
-            table,
-            Request {
+        } => {
+            let request = Request {
                 peer: peer,
                 shortest: min,
                 longest: max,
                 rx: rx,
                 fabric: fabric,
-            },
-            events,
-            now,
-        ),
+            };
+            return added(table, request, events, now);
+        }
         Line::Note {
             endpoint,
             cluster,
             attribute,
-        } => noted(table, endpoint, cluster, attribute),
+        } => {
+            return noted(table, endpoint, cluster, attribute);
+        }
         Line::Report {
             now,
             events,
             icd,
             all,
-        } => reported(
-            table,
-            Settings {
+        } => {
+            let at = Settings {
                 now: Instant::at(now),
                 events: events,
                 kind: KeepAlive::of(icd),
                 all: all,
-            },
-        ),
-        Line::Done { id, outcome } => done(table, id, outcome),
+            };
+            return reported(table, at);
+        }
+        Line::Done { id, outcome } => {
+            return done(table, id, outcome);
+        }
         Line::Attr {
             id,
             endpoint,
             cluster,
             attribute,
-        } => Answered {
-            table: table,
-            reply: of_told(table.should_report_attr(id, endpoint, cluster, attribute)),
-        },
-        Line::Wake { events, icd } => Answered {
-            table: table,
-            reply: of_moment(table.next_report_at(events, KeepAlive::of(icd))),
-        },
-        Line::Bad => Answered {
-            table: table,
-            reply: refused(Refusal::BadLine),
-        },
+        } => {
+            let told = table.should_report_attr(id, endpoint, cluster, attribute);
+            return Answered {
+                table: table,
+                reply: of_told(told),
+            };
+        }
+        Line::Wake { events, icd } => {
+            let moment = table.next_report_at(events, KeepAlive::of(icd));
+            return Answered {
+                table: table,
+                reply: of_moment(moment),
+            };
+        }
+        Line::Bad => {
+            return Answered {
+                table: table,
+                reply: refused(Refusal::BadLine),
+            };
+        }
     }
 }
 

@@ -14,17 +14,29 @@ enum-known-line c = search needs
 renewed-requires : tie.Need-renewed-requires
 renewed-requires c κs = search needs
 
+returns : tie.Need-returns
+unfolding answerIn
+returns c = c .renewed .ensures ∙ rw (c .before .before .line .given .1, answerIn)
+
 enum-known-line-2 : tie.Need-enum-known-line-2
 enum-known-line-2 c = search needs
 
 added-requires : tie.Need-added-requires
 added-requires c κs = search needs
 
+returns-2 : tie.Need-returns-2
+unfolding answerIn
+returns-2 c = c .added .ensures ∙ rw (c .before .before .line2 .given .1, answerIn)
+
 enum-known-line-3 : tie.Need-enum-known-line-3
 enum-known-line-3 c = search needs
 
 noted-requires : tie.Need-noted-requires
 noted-requires c κs = search needs
+
+returns-3 : tie.Need-returns-3
+unfolding answerIn
+returns-3 c = c .noted .ensures ∙ rw (c .before .before .line3 .given .1, answerIn)
 
 enum-known-line-4 : tie.Need-enum-known-line-4
 enum-known-line-4 c = search needs
@@ -38,11 +50,20 @@ of-requires c κs = search needs
 reported-requires : tie.Need-reported-requires
 reported-requires c κs = search needs
 
+returns-4 : tie.Need-returns-4
+unfolding answerIn
+returns-4 c =
+    c .reported .ensures ∙ rw (c .before .before .before .before .line4 .given .1, c .before .before .at .ensures, c .before .of .ensures, answerIn)
+
 enum-known-line-5 : tie.Need-enum-known-line-5
 enum-known-line-5 c = search needs
 
 done-requires : tie.Need-done-requires
 done-requires c κs = search needs
+
+returns-5 : tie.Need-returns-5
+unfolding answerIn
+returns-5 c = c .done .ensures ∙ rw (c .before .before .line5 .given .1, answerIn)
 
 enum-known-line-6 : tie.Need-enum-known-line-6
 enum-known-line-6 c = search needs
@@ -52,6 +73,11 @@ should-report-attr-requires c κs = search needs
 
 of-told-requires : tie.Need-of-told-requires
 of-told-requires c κs = search needs
+
+returns-6 : tie.Need-returns-6
+unfolding answerIn
+returns-6 c =
+    ap (answered _) (c .of-told .ensures ∙ ap toldReply (c .before .should-report-attr .ensures)) ∙ rw (c .before .before .before .line6 .given .1, answerIn)
 
 enum-known-line-7 : tie.Need-enum-known-line-7
 enum-known-line-7 c = search needs
@@ -65,42 +91,16 @@ next-report-at-requires c κs = search needs
 of-moment-requires : tie.Need-of-moment-requires
 of-moment-requires c κs = search needs
 
+returns-7 : tie.Need-returns-7
+unfolding answerIn
+returns-7 c =
+    ap (answered _) (c .of-moment .ensures ∙ ap momentReply (c .before .next-report-at .ensures ∙ ap (nextAt _ _) (c .before .before .of2 .ensures))) ∙ rw (c .before .before .before .before .line7 .given .1, answerIn)
+
 enum-told : tie.Need-enum-told
 enum-told c = search needs
 
 refused-requires : tie.Need-refused-requires
 refused-requires c κs = search needs
-
-returns : tie.Need-returns
-unfolding answerIn
-returns c = c .renewed .ensures ∙ rw (c .before .before .line .given .1, answerIn)
-
-returns-2 : tie.Need-returns-2
-unfolding answerIn
-returns-2 c = c .added .ensures ∙ rw (c .before .before .line2 .given .1, answerIn)
-
-returns-3 : tie.Need-returns-3
-unfolding answerIn
-returns-3 c = c .noted .ensures ∙ rw (c .before .before .line3 .given .1, answerIn)
-
-returns-4 : tie.Need-returns-4
-unfolding answerIn
-returns-4 c =
-    c .reported .ensures ∙ rw (c .before .before .before .before .line4 .given .1, c .before .before .at .ensures, c .before .of .ensures, answerIn)
-
-returns-5 : tie.Need-returns-5
-unfolding answerIn
-returns-5 c = c .done .ensures ∙ rw (c .before .before .line5 .given .1, answerIn)
-
-returns-6 : tie.Need-returns-6
-unfolding answerIn
-returns-6 c =
-    ap (answered _) (c .of-told .ensures ∙ ap toldReply (c .before .should-report-attr .ensures)) ∙ rw (c .before .before .before .line6 .given .1, answerIn)
-
-returns-7 : tie.Need-returns-7
-unfolding answerIn
-returns-7 c =
-    ap (answered _) (c .of-moment .ensures ∙ ap momentReply (c .before .next-report-at .ensures ∙ ap (nextAt _ _) (c .before .before .of2 .ensures))) ∙ rw (c .before .before .before .before .line7 .given .1, answerIn)
 
 returns-8 : tie.Need-returns-8
 unfolding answerIn
@@ -112,30 +112,30 @@ answer-spec =
     (tie.spec
     enum-known-line
     renewed-requires
+    returns
     enum-known-line-2
     added-requires
+    returns-2
     enum-known-line-3
     noted-requires
+    returns-3
     enum-known-line-4
     at-requires
     of-requires
     reported-requires
+    returns-4
     enum-known-line-5
     done-requires
+    returns-5
     enum-known-line-6
     should-report-attr-requires
     of-told-requires
+    returns-6
     enum-known-line-7
     of-requires-2
     next-report-at-requires
     of-moment-requires
+    returns-7
     enum-told
     refused-requires
-    returns
-    returns-2
-    returns-3
-    returns-4
-    returns-5
-    returns-6
-    returns-7
     returns-8)
