@@ -10,3 +10,4 @@ pub mod RoundHears
 pub mod Rounds
 pub mod Witness
 pub mod Sharp
+pub mod Wrapped
