@@ -1,23 +1,18 @@
--- What the equality of each call leans on: the reply that an outcome of the machine stands for, tables that are equal field by field, and what
--- holds of every state of a history.
+-- What the equality of each call leans on: the reply that an outcome of the machine stands for, tables that are equal field by field, and
+-- what holds of every state of a history.
 -- Assumes nothing.
 use mathlib.Core.Path.{_≡_}
-use mathlib.Core.List.{List}
-use mathlib.Core.Option.{Option}
-use Prim.Native.Nat.{ℕ, _+_, _≤_}
+use Prim.Native.Nat.{_+_, _≤_}
 use native.Mathlib.Omega.{arith}
 use borrow.Author.Tests.{leb-true}
 use lib.Dec.{leb}
 use lib.ListN.{length}
 use Rattle.lists.proofs.Bools.{and-both}
-use Rattle.rules.specs.States.{State, counted, capacityFits}
+use Rattle.rules.specs.States.{State}
 use Rattle.rules.specs.Machine.{Outcome}
 use Rattle.rules.proofs.Clauses.{counted-is}
 use Rattle.rules.proofs.Lives.{lives-counted}
 use Rattle.rules.proofs.Sound.{Sound}
-use Rattle.original.specs.Log.{ChangedAttrs}
-use Rattle.original.specs.Subscription.{Subscription}
-use Rattle.original.specs.Contexts.{ReportContext}
 use Rattle.original.specs.Table.{Subscriptions}
 use Rattle.original.specs.Calls.{Reply, reply}
 use Rattle.original.specs.Likeness.{originalOf}

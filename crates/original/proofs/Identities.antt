@@ -3,15 +3,12 @@
 use mathlib.Core.Path.{_≡_, sym, ap, _∙_}
 use mathlib.Core.Bool.{Bool, true, false, cond}
 use mathlib.Core.List.{List, [], _∷_}
-use mathlib.Core.Option.{none}
 use Prim.Native.Nat.{ℕ, _≤_}
 use native.Mathlib.Omega.{arith}
 use lib.Dec.{ltb}
 use lib.ListN.{length}
 use Rattle.lists.specs.Search.{some}
-use Rattle.lists.proofs.Bools.{split, or-neither}
-use Rattle.lists.proofs.Orders.{some-cons}
-use Rattle.changes.specs.declared.ChangedAttrs.{ChangedAttrs}
+use Rattle.lists.proofs.Bools.{split}
 use Rattle.changes.specs.Logs.{kept, purged, cleared}
 use Rattle.changes.proofs.Promises.{after-most, note-next, purge-next, clear-next}
 use Rattle.rules.specs.States.{State}
@@ -53,7 +50,8 @@ purge-narrow : (s : State) → Narrow s
     ≤ 18446744073709551615
 purge-narrow s h = go (ltb 0 (length (s .opens))) (ltb 0 (length (s .stored)))
   where
-    go : (a b : Bool) → cond a (s .log) (cond b (purged (s .log) (leastSeen (s .stored)) .log) (cleared (s .log) .log)) .next ≤ 18446744073709551615
+    go : (a b : Bool)
+        → cond a (s .log) (cond b (purged (s .log) (leastSeen (s .stored)) .log) (cleared (s .log) .log)) .next ≤ 18446744073709551615
     go true b = h
     go false true = rw (purge-next (s .log) (leastSeen (s .stored))) h
     go false false = rw (clear-next (s .log)) h

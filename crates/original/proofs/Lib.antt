@@ -15,3 +15,8 @@ pub mod SameQuestions
 pub mod SameRounds
 pub mod Identities
 pub mod SameHistories
+pub mod Computing
+pub mod Outside
+pub mod Inside
+pub mod WrongPrograms
+pub mod Examples

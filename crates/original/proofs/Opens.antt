@@ -1,26 +1,24 @@
--- The open ones: the slot `reporting` is the one of them that is no priming, and a completion empties it exactly where it completes that one.
--- At most one of them is the report, and no two have the same id.
+-- The open ones: the slot `reporting` holds the one of them that is no priming, and a completion empties it exactly where it completes
+-- that one. At most one of them is the report, and no two have the same id.
 -- Assumes nothing.
 use mathlib.Core.Path.{_≡_, refl, sym, ap, _∙_, fun-ext}
-use mathlib.Core.Bool.{Bool, true, false, cond, not, _&&_, _||_}
+use mathlib.Core.Bool.{Bool, true, false, cond}
 use mathlib.Core.List.{List, [], _∷_, map}
-use mathlib.Core.Option.{Option, none}
+use mathlib.Core.Option.{none}
 use mathlib.Core.Option.{some as just}
 use Prim.Native.Nat.{ℕ, _+_, _≤_}
 use native.Mathlib.Omega.{arith}
-use lib.Dec.{eqb}
 use Rattle.lists.specs.Search.{one, some, count, changeFirst, firstBy}
 use Rattle.lists.specs.Removal.{takeOutNewest}
 use Rattle.lists.proofs.Bools.{split, clash, or-neither}
-use Rattle.lists.proofs.Orders.{one-yes, one-no, none-one, count-cons, count-taken, none-count}
+use Rattle.lists.proofs.Orders.{one-yes, one-no, none-one, count-taken, none-count}
 use Rattle.lists.proofs.Maps.{some-map, first-map, newest-taken-map}
 use Rattle.subscription.specs.declared.Subscription.{Subscription}
 use Rattle.subscription.specs.Life.{blank}
-use Rattle.rules.specs.States.{State, isReport, hasId}
+use Rattle.rules.specs.States.{isReport, hasId}
 use Rattle.rules.proofs.Clauses.{has-id-is}
 use Rattle.original.specs.Std.{isSome, find}
 use Rattle.original.specs.Table.{ownsSlot}
-use Rattle.original.specs.Contexts.{ReportContext}
 use Rattle.original.specs.Calls.{holdsId}
 use Rattle.original.specs.Likeness.{subscriptionOf, contextOf, reportingOf}
 use Rattle.original.proofs.Vectors.{found-is}
@@ -134,7 +132,8 @@ module _ (id : ℕ) where
       (λ u. first-counts (hasId id) isReport xs (rw t at h) (omega (arith, one-yes u)))))
     where
       turned : (b f : Bool) → (b ≡ true → f ≡ false)
-          → cond b (just (subscriptionOf x)) (cond f none (reportingOf xs)) ≡ cond f none (cond b (just (subscriptionOf x)) (reportingOf xs))
+          → cond b (just (subscriptionOf x)) (cond f none (reportingOf xs))
+          ≡ cond f none (cond b (just (subscriptionOf x)) (reportingOf xs))
       turned true true e = absurd (clash refl (e refl))
       turned true false e = refl
       turned false true e = refl

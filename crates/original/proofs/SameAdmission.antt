@@ -1,14 +1,13 @@
 -- New, add, resume and note: the Rust does what the machine does.
 -- Assumes nothing.
 use mathlib.Core.Path.{_≡_, refl, sym, ap, _∙_}
-use mathlib.Core.Bool.{Bool, true, false, cond}
-use mathlib.Core.List.{List, [], _∷_, _++_, map, map-append}
+use mathlib.Core.Bool.{true, false}
+use mathlib.Core.List.{[], _∷_, _++_, map, map-append}
 use mathlib.Core.Option.{none}
-use mathlib.Core.Option.{some as just}
 use Prim.Native.Nat.{ℕ, _+_}
 use native.Mathlib.Omega.{arith}
 use lib.Dec.{leb}
-use lib.ListN.{length, length-append}
+use lib.ListN.{length-append}
 use Rattle.lists.specs.Search.{some}
 use Rattle.lists.proofs.Bools.{or-neither}
 use Rattle.lists.proofs.Searches.{some-append}
@@ -16,12 +15,13 @@ use Rattle.refusal.specs.declared.Refusal.the-variants.{Full}
 use Rattle.time.specs.declared.Instant.{Instant}
 use Rattle.changes.specs.Logs.{watermarkOf, noted}
 use Rattle.subscription.specs.declared.Request.{Request}
+use Rattle.subscription.specs.declared.Subscription as one
 use Rattle.subscription.specs.Life.{priming, resumed}
 use Rattle.subscription.proofs.Laws.{priming-reporting}
 use Rattle.subscription.proofs.Cases.{priming-is, resumed-is}
-use Rattle.rules.specs.States.{State, fresh, counted, hasId, idLive}
+use Rattle.rules.specs.States.{State, fresh, counted, hasId}
 use Rattle.rules.specs.Calls as call
-use Rattle.rules.specs.Machine.{withNext, withOnes, withLog, nextIdAfter, outcome, firstOf, objections, act}
+use Rattle.rules.specs.Machine.{withNext, withOnes, withLog, nextIdAfter, firstOf, objections, act}
 use Rattle.rules.proofs.Acts.{act-new, act-add, act-resume, act-note}
 use Rattle.rules.proofs.Clauses.{counted-is, add-objects, resume-objects}
 use Rattle.rules.proofs.Objections.{unobjected}
@@ -29,9 +29,9 @@ use Rattle.original.specs.Std.{instantMin, instantMax}
 use Rattle.original.specs.Log.{watermark}
 use Rattle.original.specs.Contexts.{ReportContext, context, withNextReportedAt, setKeep, returned}
 use Rattle.original.specs.Table as table
-use Rattle.original.specs.Table.{newTable, counting, addWithId, reportComplete}
+use Rattle.original.specs.Table.{newTable, addWithId, reportComplete}
 use Rattle.original.specs.Calls.{reply, callOn}
-use Rattle.original.specs.Likeness.{subscriptionOf, contextOf, reportingOf, cancelledOf, logOf, originalOf}
+use Rattle.original.specs.Likeness.{subscriptionOf, contextOf, reportingOf, logOf, originalOf}
 use Rattle.original.proofs.Alike.{replyOf, same-table, Fit}
 use Rattle.original.proofs.Opens.{not-owner}
 use Rattle.original.proofs.SameNotes.{record-is, watermark-is}
@@ -52,7 +52,8 @@ module _ (s : State) (fit : Fit s) where
   unfolding callOn originalOf logOf
   note-same e c a =
       rw (act-note s e c a)
-      (ap (λ g. reply (call.heard (s .log .next) true) (table.withLog g (originalOf s))) (record-is (s .log) (fit .sound .log) e c a (fit .identities))
+      (ap (λ g. reply (call.heard (s .log .next) true) (table.withLog g (originalOf s)))
+      (record-is (s .log) (fit .sound .log) e c a (fit .identities))
       ∙ ap (reply (call.heard (s .log .next) true)) (same-table refl refl recounted refl refl refl refl refl))
     where
       recounted : counted s ≡ counted (withLog s (noted (s .log) e c a .log))
@@ -70,8 +71,11 @@ module _ (s : State) (fit : Fit s) where
         rw (act-add s request events now, room)
         (ap (reply (call.number (s .next))) (same-table refl refl counts refl refl slot refl contexts))
       where
+        new : one.Subscription
+        new = priming request (s .next) (watermarkOf (s .log)) events now
+
         opened : State
-        opened = withNext (withOnes s (s .stored) (priming request (s .next) (watermarkOf (s .log)) events now ∷ s .opens)) (nextIdAfter (s .next) (s .next))
+        opened = withNext (withOnes s (s .stored) (new ∷ s .opens)) (nextIdAfter (s .next) (s .next))
 
         counts : counted s + 1 ≡ counted opened
         counts = omega (arith, counted-is s, counted-is opened)
@@ -79,17 +83,19 @@ module _ (s : State) (fit : Fit s) where
         slot : reportingOf (s .opens) ≡ reportingOf (opened .opens)
         slot = rw (priming-reporting request (s .next) (watermarkOf (s .log)) events now, reportingOf)
 
-        contexts :
-            context (table.fresh (s .next) request (logOf (s .log))) (watermark (logOf (s .log))) events (now .ms) ∷ map contextOf (s .opens)
-            ≡ map contextOf (opened .opens)
+        first : ReportContext
+        first = context (table.fresh (s .next) request (logOf (s .log))) (watermark (logOf (s .log))) events (now .ms)
+
+        contexts : first ∷ map contextOf (s .opens) ≡ map contextOf (opened .opens)
         contexts = rw (marked, priming-is request (s .next) (watermarkOf (s .log)) events now)
 
     -- what the Rust stores of a resumed one
-    resumed-back : (id : ℕ)
-        → returned
-        (setKeep
-        (withNextReportedAt instantMax (context (table.fresh id request (logOf (s .log))) (watermark (logOf (s .log))) events instantMin)))
-        ≡ subscriptionOf (resumed request id (watermarkOf (s .log)) events)
+    abbrev resuming : ℕ → ReportContext
+    resuming id =
+        setKeep
+        (withNextReportedAt instantMax (context (table.fresh id request (logOf (s .log))) (watermark (logOf (s .log))) events instantMin))
+
+    resumed-back : (id : ℕ) → returned (resuming id) ≡ subscriptionOf (resumed request id (watermarkOf (s .log)) events)
     unfolding returned setKeep subscriptionOf
     resumed-back id = rw (marked, resumed-is request id (watermarkOf (s .log)) events)
 
@@ -101,25 +107,24 @@ module _ (s : State) (fit : Fit s) where
         let b = unobjected _ _ _ (a .1) in
         let room : leb (s .capacity) (counted s) ≡ false = b .0 in
         let free : some (hasId id) (s .stored ++ s .opens) ≡ false = unobjected _ _ _ (b .1) .0 in
-        let others = or-neither (some (hasId id) (s .stored)) (some (hasId id) (s .opens)) (sym (some-append (hasId id) (s .stored) (s .opens)) ∙ free) .1 in
-        rw (act-resume s id request events, room, not-owner id (s .opens) others)
+        let neither = or-neither (some (hasId id) (s .stored)) (some (hasId id) (s .opens))
+        (sym (some-append (hasId id) (s .stored) (s .opens)) ∙ free) in
+        rw (act-resume s id request events, room, not-owner id (s .opens) (neither .1))
         (ap (reply (call.number id)) (same-table refl refl counts stored refl refl refl refl))
       where
+        new : one.Subscription
+        new = resumed request id (watermarkOf (s .log)) events
+
         after : State
-        after = withNext (withOnes s (s .stored ++ (resumed request id (watermarkOf (s .log)) events ∷ [])) (s .opens)) (nextIdAfter (s .next) id)
+        after = withNext (withOnes s (s .stored ++ (new ∷ [])) (s .opens)) (nextIdAfter (s .next) id)
 
         counts : counted s + 1 ≡ counted after
-        counts = omega (arith, counted-is s, counted-is after, length-append (s .stored) (resumed request id (watermarkOf (s .log)) events ∷ []))
+        counts = omega (arith, counted-is s, counted-is after, length-append (s .stored) (new ∷ []))
 
-        kept : ReportContext
-        kept =
-            setKeep
-            (withNextReportedAt instantMax (context (table.fresh id request (logOf (s .log))) (watermark (logOf (s .log))) events instantMin))
-
-        stored : map subscriptionOf (s .stored) ++ (returned kept ∷ []) ≡ map subscriptionOf (after .stored)
+        stored : map subscriptionOf (s .stored) ++ (returned (resuming id) ∷ []) ≡ map subscriptionOf (after .stored)
         stored =
             ap (λ x. map subscriptionOf (s .stored) ++ (x ∷ [])) (resumed-back id)
-            ∙ sym (map-append subscriptionOf (s .stored) (resumed request id (watermarkOf (s .log)) events ∷ []))
+            ∙ sym (map-append subscriptionOf (s .stored) (new ∷ []))
 
     -- where the table is full, the Rust has no context
     pub add-full : (now : Instant) → leb (s .capacity) (counted s) ≡ true

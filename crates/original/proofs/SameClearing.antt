@@ -13,8 +13,7 @@ use lib.ListN.{length, length-map}
 use Rattle.lists.specs.Search.{one, some, count, leastBy}
 use Rattle.lists.specs.Removal.{sweep}
 use Rattle.lists.proofs.Bools.{split, or-neither, and-left}
-use Rattle.lists.proofs.Orders.{one-yes, one-no, count-cons, count-none, count-some, none-count, none-counted}
-use Rattle.lists.proofs.Searches.{some-weaken}
+use Rattle.lists.proofs.Orders.{one-yes, one-no, count-none, count-some, none-count, none-counted}
 use Rattle.lists.proofs.Maps.{some-map, sweep-map}
 use Rattle.changes.specs.declared.ChangedAttrs as changes
 use Rattle.changes.specs.Logs.{kept, purged, cleared}
@@ -29,12 +28,12 @@ use Rattle.rules.proofs.Acts.{act-remove, act-clear, act-purge}
 use Rattle.rules.proofs.Clauses.{counted-is, remove-objects, clear-objects}
 use Rattle.rules.proofs.Objections.{unobjected}
 use Rattle.rules.proofs.Sound.{Sound}
-use Rattle.original.specs.Std.{isSome, iterMin}
+use Rattle.original.specs.Std.{iterMin}
 use Rattle.original.specs.Subscription.{Subscription}
 use Rattle.original.specs.Table as table
-use Rattle.original.specs.Table.{Subscriptions, withInner, removeLoop, cancels, remove, clear, purgedBy, purgeReportedChanges}
+use Rattle.original.specs.Table.{cancels, remove, clear, purgedBy, purgeReportedChanges}
 use Rattle.original.specs.Calls.{reply, takes, callOn}
-use Rattle.original.specs.Likeness.{subscriptionOf, contextOf, reportingOf, cancelledOf, logOf, originalOf}
+use Rattle.original.specs.Likeness.{subscriptionOf, reportingOf, cancelledOf, logOf, originalOf}
 use Rattle.original.proofs.Alike.{replyOf, same-table, few}
 use Rattle.original.proofs.Opens.{slot-full}
 use Rattle.original.proofs.SameNotes.{purge-is, clear-is}
@@ -82,8 +81,17 @@ unfolding callOn remove originalOf
 remove-same s sound choice reason e =
     let a = unobjected _ _ _ (ap firstOf (sym (remove-objects s choice reason)) ∙ e) in
     let some-reason : eqb reason 0 ≡ false = or-neither (eqb reason 0) (leb 255 reason) (a .0) .0 in
-    rw (act-remove s choice reason, counting, loop-sweeps (takes choice) (map subscriptionOf (s .stored)) (length (s .opens)) room, swept, wakes, cancelling, reason-same (machine.cancels choice s) reason (s .cancel) some-reason)
-    (ap (reply (call.yesNo (some (chosen choice) (s .stored) || machine.cancels choice s))) (same-table refl refl counts refl refl refl refl refl))
+    rw (
+      act-remove s choice reason,
+      counting,
+      loop-sweeps (takes choice) (map subscriptionOf (s .stored)) (length (s .opens)) room,
+      swept,
+      wakes,
+      cancelling,
+      reason-same (machine.cancels choice s) reason (s .cancel) some-reason,
+    )
+    (ap (reply (call.yesNo (some (chosen choice) (s .stored) || machine.cancels choice s)))
+    (same-table refl refl counts refl refl refl refl refl))
   where
     takes-chosen : (λ x. takes choice (subscriptionOf x)) ≡ chosen choice
     takes-chosen = fun-ext (λ x. takes-same x choice)
@@ -133,7 +141,8 @@ clear-same s sound e =
     split (some isReport (s .opens))
     (λ t. rw (act-clear s, slot-full (s .opens), t)
     (ap (reply (call.yesNo false))
-    (same-table refl refl (omega (arith, counted-is (after 255), count-some isReport (s .opens) t, sound .single)) refl refl refl refl refl)))
+    (same-table refl refl (omega (arith, counted-is (after 255), count-some isReport (s .opens) t, sound .single)) refl refl refl refl
+    refl)))
     (λ t. rw (act-clear s, slot-full (s .opens), t)
     (ap (reply (call.yesNo false))
     (same-table refl refl (omega (arith, counted-is (after (s .cancel)), count-none isReport (s .opens) t)) refl refl refl refl refl)))
@@ -167,8 +176,12 @@ purge-same s sound =
     busy =
         let stored = length-map (s .stored) subscriptionOf in
         split (ltb 0 (length (s .opens)))
-        (λ t. lt-ltb (length (map subscriptionOf (s .stored))) (counted s) (omega (arith, counted-is s, ltb-true 0 (length (s .opens)) t)) ∙ sym t)
-        (λ t. le-ltb (length (map subscriptionOf (s .stored))) (counted s) (omega (arith, counted-is s, ltb-false 0 (length (s .opens)) t)) ∙ sym t)
+        (λ t. lt-ltb (length (map subscriptionOf (s .stored))) (counted s)
+        (omega (arith, counted-is s, ltb-true 0 (length (s .opens)) t))
+        ∙ sym t)
+        (λ t. le-ltb (length (map subscriptionOf (s .stored))) (counted s)
+        (omega (arith, counted-is s, ltb-false 0 (length (s .opens)) t))
+        ∙ sym t)
 
     recount : (g : changes.ChangedAttrs) → table.withLog (logOf g) (originalOf s) ≡ originalOf (withLog s g)
     recount g = same-table refl refl (counted-is s ∙ sym (counted-is (withLog s g))) refl refl refl refl refl

@@ -2,20 +2,19 @@
 -- Assumes nothing.
 use mathlib.Core.Path.{_≡_, refl, sym, ap, _∙_}
 use mathlib.Core.Bool.{Bool, true, false, cond, not, _&&_}
-use mathlib.Core.List.{List, [], _∷_, _++_, map, map-append}
+use mathlib.Core.List.{[], _∷_, _++_, map, map-append}
 use mathlib.Core.Option.{Option, none}
-use mathlib.Core.Option.{some as just}
-use Prim.Native.Nat.{ℕ, suc, _+_, _≤_, _<_}
+use Prim.Native.Nat.{ℕ, suc, _+_, _≤_}
 use native.Mathlib.Omega.{arith}
 use borrow.Author.Tests.{eqb-true, lt-ltb, le-ltb, ltb-false, not-false}
 use lib.Dec.{eqb, ltb}
 use lib.ListN.{length, length-append, length-map}
-use Rattle.lists.specs.Search.{some, count}
+use Rattle.lists.specs.Search.{some}
 use Rattle.lists.specs.Removal.{takeOutNewest}
 use Rattle.lists.proofs.Bools.{split}
-use Rattle.lists.proofs.Orders.{count-taken-newest, count-every, count-some, first-meets}
+use Rattle.lists.proofs.Orders.{count-taken-newest, count-every, first-meets}
 use Rattle.subscription.specs.declared.Subscription as one
-use Rattle.subscription.specs.Life.{blank, closed, keeps, failed}
+use Rattle.subscription.specs.Life.{blank, closed, keeps}
 use Rattle.rules.specs.States.{State, counted, isReport, hasId}
 use Rattle.rules.specs.Calls as call
 use Rattle.rules.specs.Machine.{withCancel, withOnes, openWith, cancelled, stays, storedAfter, firstOf, objections, act}
@@ -27,7 +26,7 @@ use Rattle.original.specs.Std.{isSome, wrappingSub}
 use Rattle.original.specs.Subscription.{Subscription}
 use Rattle.original.specs.Contexts.{ReportContext, returned}
 use Rattle.original.specs.Table.{Subscriptions, withInner, withContexts, ownsSlot, putBack, reportComplete}
-use Rattle.original.specs.Calls.{Reply, reply, said, dropped, complete, callOn}
+use Rattle.original.specs.Calls.{reply, said, dropped, complete, callOn}
 use Rattle.original.specs.Likeness.{subscriptionOf, contextOf, reportingOf, cancelledOf, originalOf}
 use Rattle.original.proofs.Alike.{replyOf, same-table, few}
 use Rattle.original.proofs.Opens.{context-found, context-taken, owner, slot-taken}
@@ -46,7 +45,8 @@ cancel-left false n = refl
 
 complete-by : (c : ReportContext) (t : Subscriptions) (b : Bool) → ownsSlot (c .subscription .id) (t .reporting) ≡ b
     → reportComplete c t
-    ≡ putBack (b && isSome (t .reportingCancelled)) (c .keep) (returned c) (cond b none (t .reporting)) (cond b none (t .reportingCancelled)) t
+    ≡ putBack (b && isSome (t .reportingCancelled)) (c .keep) (returned c) (cond b none (t .reporting))
+    (cond b none (t .reportingCancelled)) t
 unfolding reportComplete
 complete-by c t true e = rw e
 complete-by c t false e = rw e
@@ -138,7 +138,12 @@ module _ (s : State) (id o : ℕ) (sound : Sound s) (good : o ≤ 4) (found : so
   unfolding originalOf
   complete-table =
       complete-by said-so held (isReport x) owns
-      ∙ rw (some-cancelled (s .cancel), keep-same x o good, cancel-left (isReport x) (s .cancel), ← slot-taken id (s .opens) found (sound .single))
+      ∙ rw (
+        some-cancelled (s .cancel),
+        keep-same x o good,
+        cancel-left (isReport x) (s .cancel),
+        ← slot-taken id (s .opens) found (sound .single),
+      )
       (put-back (cancelled x s) (keeps x o) refl refl)
 
   -- it was kept exactly where the table holds one more
@@ -146,14 +151,17 @@ module _ (s : State) (id o : ℕ) (sound : Sound s) (good : o ≤ 4) (found : so
   kept-same =
       rw (length-map (s .stored) subscriptionOf, length-map (storedAfter x o s) subscriptionOf)
       (split (stays x o s)
-      (λ t. lt-ltb (length (s .stored)) (length (storedAfter x o s)) (omega (arith, ap length (stored-kept t), length-append (s .stored) (closed x o ∷ []))) ∙ sym t)
+      (λ t. lt-ltb (length (s .stored)) (length (storedAfter x o s))
+      (omega (arith, ap length (stored-kept t), length-append (s .stored) (closed x o ∷ [])))
+      ∙ sym t)
       (λ t. le-ltb (length (s .stored)) (length (storedAfter x o s)) (omega (arith, ap length (stored-dropped t))) ∙ sym t))
 
   pub dropped-same : dropped said-so held ≡ replyOf (act (call.complete id o) s)
   unfolding originalOf
   dropped-same =
       rw (act-complete s id o)
-      (ap (λ t. reply (call.completed (ltb (length (map subscriptionOf (s .stored))) (length (t .subscriptions))) (said-so .reportFailed)) t) complete-table
+      (ap (λ t. reply
+      (call.completed (ltb (length (map subscriptionOf (s .stored))) (length (t .subscriptions))) (said-so .reportFailed)) t) complete-table
       ∙ ap (λ b. reply (call.completed b (said-so .reportFailed)) (originalOf ended)) kept-same
       ∙ ap (λ b. reply (call.completed (stays x o s) b) (originalOf ended)) (failed-same x o good))
 

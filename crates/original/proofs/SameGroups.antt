@@ -1,36 +1,34 @@
--- A fold: the largest group that the Rust finds is the candidate of document 01 that covers most, and the loop that collapses it is a sweep that
--- keeps the greatest identity.
+-- A fold: the largest group that the Rust finds is the candidate of document 01 that covers most, and the loop that collapses it is a sweep
+-- that keeps the greatest identity.
 -- Assumes nothing.
 use mathlib.Core.Path.{_≡_, refl, sym, ap, _∙_}
 use mathlib.Core.Bool.{Bool, true, false, cond}
-use mathlib.Core.List.{List, [], _∷_, _++_}
+use mathlib.Core.List.{List, [], _∷_}
 use mathlib.Core.Option.{Option, none}
 use mathlib.Core.Option.{some as just}
-use Prim.Native.Nat.{ℕ, zero, suc, _+_, _≤_, _<_, max}
+use Prim.Native.Nat.{ℕ, zero, suc, _≤_, _<_, max}
 use native.Mathlib.Omega.{arith}
 use native.Mathlib.Nat.{le-refl}
 use borrow.Author.Tests.{ltb-true, ltb-false, lt-ltb, le-ltb}
 use lib.Dec.{ltb}
 use lib.ListN.{length, getElem?}
-use Rattle.lists.specs.Search.{some, count, changeFirst}
+use Rattle.lists.specs.Search.{count}
 use Rattle.lists.specs.Removal.{lastOf, initOf, refilled, sweepFor, sweep}
-use Rattle.lists.proofs.Bools.{split, not-so}
-use Rattle.lists.proofs.Removals.{length-refilled, length-swept, was-there}
+use Rattle.lists.proofs.Bools.{split}
+use Rattle.lists.proofs.Removals.{length-refilled}
 use Rattle.entries.specs.declared.ChangedAttr.{ChangedAttr}
 use Rattle.entries.specs.declared.Level.{Level}
-use Rattle.entries.specs.declared.Level.the-variants.{Cluster, Endpoint}
 use Rattle.entries.specs.declared.Coarser.{Coarser}
 use Rattle.entries.specs.declared.Coarser.the-variants.{To, Nothing}
-use Rattle.entries.specs.Paths.{withIdentity, allWild, blank, over, under, candidate}
+use Rattle.entries.specs.Paths.{blank, under, candidate}
 use Rattle.notes.specs.declared.Group.{Group}
-use Rattle.notes.specs.Notes.{refreshed, placed, sized, largestFrom, largest, newest, folded, crowded, inserted, entered}
-use Rattle.notes.proofs.Cases.{placed-found, placed-new, entered-found, entered-new, inserted-room, inserted-full, crowded-fine, crowded-coarse, crowded-wild, refreshed-is, folded-is, newest-nil, newest-cons, largest-is, largest-over, largest-more}
-use Rattle.notes.proofs.Groups.{largest-covers, folded-room}
-use Rattle.original.specs.Std.{unwrapOr, swapRemove, push, findMut, removeWhile}
-use Rattle.original.specs.Entries.{withChangeId, covers, coarsen}
-use Rattle.original.specs.Log.{covered, bestPivot, collapse, coarsenedBy, promoted, promoteLargestGroup, refresh, orPromote, promoteAndInsert, recorded}
-use Rattle.original.proofs.Vectors.{swap-first, swap-later, while-sweeps, found-changed}
-use Rattle.original.proofs.SameEntries.{under-same, over-same, number, asOption, coarsen-same}
+use Rattle.notes.specs.Notes.{sized, largestFrom, largest, newest, folded}
+use Rattle.notes.proofs.Cases.{folded-is, newest-nil, newest-cons, largest-is, largest-over, largest-more}
+use Rattle.original.specs.Std.{swapRemove}
+use Rattle.original.specs.Entries.{covers, coarsen}
+use Rattle.original.specs.Log.{bestPivot, collapse, coarsenedBy, promoted, promoteLargestGroup}
+use Rattle.original.proofs.Vectors.{swap-first, swap-later}
+use Rattle.original.proofs.SameEntries.{under-same, number, asOption, coarsen-same}
 
 -- ---- the loop that collapses a group
 
@@ -100,7 +98,8 @@ module _ (by : ChangedAttr) where
       (λ t. rw t (omega (arith, ltb-true m (x .identity) t)))
       (λ t. rw t (omega (arith, ltb-false m (x .identity) t)))
 
-  collapse-for : (n m : ℕ) (l : List ChangedAttr) → length l ≤ n → collapse n by 0 m l ≡ (max m (newest (under by) l), sweepFor n (under by) l)
+  collapse-for : (n m : ℕ) (l : List ChangedAttr) → length l ≤ n
+      → collapse n by 0 m l ≡ (max m (newest (under by) l), sweepFor n (under by) l)
   unfolding collapse sweepFor
   collapse-for zero m [] h = let e : m ≡ max m (newest (under by) []) = omega (arith, newest-nil (under by)) in ap (λ k. (k, [])) e
   collapse-for zero m (x ∷ xs) h = absurd (omega arith)
@@ -177,7 +176,8 @@ module _ (level : Level) (l : List ChangedAttr) where
   pub group-is : promoteLargestGroup (number level) l ≡ cond (ltb 1 (largest level l .size)) (just (folded (largest level l .by) l)) none
   unfolding promoteLargestGroup
   group-is =
-      rw (pivot-is l 1 none (record { by = blank; size = 1 }) (refl, refl), ← largest-is level l) (go (ltb 1 (largest level l .size)) (largest level l .by))
+      rw (pivot-is l 1 none (record { by = blank; size = 1 }) (refl, refl), ← largest-is level l)
+      (go (ltb 1 (largest level l .size)) (largest level l .by))
     where
       go : (b : Bool) (by : ChangedAttr) → promoted (cond b (just by) none) l ≡ cond b (just (folded by l)) none
       go true by = rw (collapse-is by l, folded-is by l)

@@ -7,26 +7,24 @@ use mathlib.Core.Option.{Option, none}
 use mathlib.Core.Option.{some as just}
 use Prim.Native.Nat.{ℕ}
 use native.Mathlib.Omega.{arith}
-use lib.Dec.{eqb, leb}
 use Rattle.refusal.specs.declared.Refusal.{Refusal}
 use Rattle.refusal.specs.declared.Refusal.the-variants.{Full, NotOpen, ReportOpen, IdLive, BadArgument, PrimingOpen, NotWellKept, BadLine}
 use Rattle.lists.specs.Search.{some}
-use Rattle.lists.proofs.Bools.{split, clash, or-neither}
+use Rattle.lists.proofs.Bools.{clash, or-neither}
 use Rattle.lists.proofs.Orders.{count-nil, some-cons}
-use Rattle.rules.specs.States.{State, fresh, capacityFits, counted}
+use Rattle.rules.specs.States.{State, fresh}
 use Rattle.rules.specs.Calls as call
-use Rattle.rules.specs.Calls.{Op, Answer}
+use Rattle.rules.specs.Calls.{Op}
 use Rattle.rules.specs.Histories.{numbered, lateRetry}
-use Rattle.rules.specs.Machine.{Objection, firstOf, objections, refusal, outcome, act, step, run, answers}
+use Rattle.rules.specs.Machine.{Objection, firstOf, objections, refusal, act, step, run, answers}
 use Rattle.rules.proofs.Acts.{run-none, run-more, answers-none, answers-more}
 use Rattle.rules.proofs.Clauses.{first-holds, first-passed, first-none, refusal-kept, new-objects, add-objects, resume-objects, note-objects, report-objects, complete-objects, remove-objects, clear-objects, purge-objects, attribute-objects, send-objects, instant-objects, any-objects, alive-objects, statistics-objects, has-objects, round-objects}
 use Rattle.rules.proofs.Instants.{retries-last}
 use Rattle.rules.proofs.Lives.{lives}
-use Rattle.rules.proofs.Objections.{no-objection, ofNumber, no-number}
+use Rattle.rules.proofs.Objections.{ofNumber, no-number}
 use Rattle.rules.proofs.Refusals.{refused-alters-nothing, unrefused-acts}
-use Rattle.rules.proofs.Sound.{Sound, sound-kept}
+use Rattle.rules.proofs.Sound.{sound-kept}
 use Rattle.rules.proofs.Steps.{fresh-sound, step-sound}
-use Rattle.original.specs.Table.{newTable}
 use Rattle.original.specs.Calls.{reply, callOn, after, answered}
 use Rattle.original.specs.Likeness.{originalOf}
 use Rattle.original.specs.Demand.{strays, Demand2}
@@ -70,7 +68,10 @@ never-full k e h f = clash (ap (λ l. numbered 1 (firstOf l)) (sym e) ∙ ap (nu
 -- of an admission the first objection is the fabric, the second the full table
 full-second : (a b c : Bool) → firstOf ((a, BadArgument) ∷ (b, Full) ∷ (c, IdLive) ∷ []) ≡ just Full → b ≡ true
 full-second a true c e = refl
-full-second true false c e = let f = first-holds {b = true} BadArgument ((false, Full) ∷ (c, IdLive) ∷ []) refl in let z : _≡_ {A = ℕ} 0 1 = cc in absurd (omega arith)
+full-second true false c e =
+    let f = first-holds {b = true} BadArgument ((false, Full) ∷ (c, IdLive) ∷ []) refl in
+    let z : _≡_ {A = ℕ} 0 1 = cc in
+    absurd (omega arith)
 full-second false false true e =
     let f = first-passed {b = false} BadArgument ((false, Full) ∷ (true, IdLive) ∷ []) refl
     ∙ first-passed {b = false} Full ((true, IdLive) ∷ []) refl
@@ -83,7 +84,8 @@ full-second false false false e =
     ∙ first-none in
     let z : _≡_ {A = ℕ} 0 1 = cc in absurd (omega arith)
 
-full-same : (op : Op) (s : State) → Fit s → firstOf (objections op s) ≡ just Full → callOn op (originalOf s) ≡ reply (call.refused Full) (originalOf s)
+full-same : (op : Op) (s : State) → Fit s → firstOf (objections op s) ≡ just Full
+    → callOn op (originalOf s) ≡ reply (call.refused Full) (originalOf s)
 full-same (call.add request events now) s fit e =
     add-full s fit request events now (full-second _ _ _ (ap firstOf (sym (add-objects s request events now)) ∙ e))
 full-same (call.resume id request events) s fit e =

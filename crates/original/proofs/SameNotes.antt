@@ -2,11 +2,11 @@
 -- After one fold there is room, so that the loop of promote_and_insert ends in its second turn.
 -- Assumes nothing.
 use mathlib.Core.Path.{_≡_, refl, sym, ap, _∙_}
-use mathlib.Core.Bool.{Bool, true, false, cond}
+use mathlib.Core.Bool.{true, false, cond}
 use mathlib.Core.List.{List, [], _∷_, _++_}
-use mathlib.Core.Option.{Option, none}
+use mathlib.Core.Option.{none}
 use mathlib.Core.Option.{some as just}
-use Prim.Native.Nat.{ℕ, zero, suc, _+_, _-_, _≤_, _<_, max}
+use Prim.Native.Nat.{ℕ, suc, _+_, _-_, _≤_, _<_, max}
 use native.Mathlib.Omega.{arith}
 use borrow.Author.Tests.{ltb-true, ltb-false, lt-ltb, le-ltb, eqb-true, eqb-false}
 use lib.Arith.{lt-of-le-ne}
@@ -18,7 +18,7 @@ use Rattle.lists.proofs.Bools.{split, not-so}
 use Rattle.lists.proofs.Removals.{length-swept, was-there}
 use Rattle.entries.specs.declared.ChangedAttr.{ChangedAttr}
 use Rattle.entries.specs.declared.Level.the-variants.{Cluster, Endpoint}
-use Rattle.entries.specs.Paths.{entry, withIdentity, allWild, over, under, upTo}
+use Rattle.entries.specs.Paths.{withIdentity, allWild, over, under, upTo}
 use Rattle.changes.specs.declared.ChangedAttrs as changes
 use Rattle.notes.specs.declared.Group.{Group}
 use Rattle.notes.specs.Notes.{refreshed, placed, largest, folded, crowded, inserted, entered}
@@ -28,9 +28,9 @@ use Rattle.notes.proofs.Cases.{placed-found, placed-new, entered-found, entered
 use Rattle.changes.proofs.Cases.{kept-next}
 use Rattle.notes.proofs.Groups.{largest-covers, folded-room}
 use Rattle.changes.proofs.Promises.{entries-held, next-held, entries-fit, note-answer, purge-answer, clear-answer, after-last, after-others}
-use Rattle.original.specs.Std.{unwrapOr, wrappingAdd, wrappingSub, push, findMut, removeWhile}
-use Rattle.original.specs.Entries.{withChangeId, covers}
-use Rattle.original.specs.Log.{watermark, containsSince, anySince, purgeUpTo, clearLog, promoteLargestGroup, refresh, orPromote, promoteAndInsert, recorded, recordRaw, recordConcrete}
+use Rattle.original.specs.Std.{unwrapOr, wrappingAdd, push, removeWhile}
+use Rattle.original.specs.Entries.{wildcardEndpoint, wildcardCluster, wildcardAttr, withChangeId, covers}
+use Rattle.original.specs.Log.{ChangedAttrs, watermark, containsSince, anySince, purgeUpTo, clearLog, promoteLargestGroup, refresh, orPromote, promoteAndInsert, recorded, recordRaw, recordConcrete, recordWildcard}
 use Rattle.original.specs.Likeness.{logOf}
 use Rattle.original.proofs.Vectors.{while-sweeps, found-changed}
 use Rattle.original.proofs.SameEntries.{under-same, over-same, since-same, above-same, up-to-same}
@@ -70,7 +70,8 @@ module _ (n : ChangedAttr) where
       (λ t. turn-pushes f l t h ∙ placed-new n l t)
 
   turn-folds : (f : ℕ) (l fewer : List ChangedAttr) → some (over n) l ≡ false → 16 ≤ length l
-      → orPromote (promoteLargestGroup 1 l) (promoteLargestGroup 2 l) ≡ just fewer → promoteAndInsert (suc f) n l ≡ promoteAndInsert f n fewer
+      → orPromote (promoteLargestGroup 1 l) (promoteLargestGroup 2 l) ≡ just fewer
+      → promoteAndInsert (suc f) n l ≡ promoteAndInsert f n fewer
   unfolding promoteAndInsert
   turn-folds f l fewer t h e = rw (refresh-is l, t, promoteAndInsert) (rw (not-pushed l h) (rw e))
 
@@ -160,6 +161,16 @@ module _ (g : changes.ChangedAttrs) (k : kept g ≡ true) where
   pub watermark-is : g .next ≤ 18446744073709551615 → watermark (logOf g) ≡ watermarkOf g
   unfolding logOf
   watermark-is low = let on : 0 < g .next = lt-of-le-ne (omega arith) (λ z. kept-next g k (sym z)) in omega arith
+
+-- the Rust's wider notes are notes with wild fields
+pub cluster-note : (e c : ℕ) (g : ChangedAttrs) → recordWildcard (just e) (just c) g ≡ recordConcrete e c wildcardAttr g
+cluster-note e c g = refl
+
+pub endpoint-note : (e : ℕ) (g : ChangedAttrs) → recordWildcard (just e) none g ≡ recordConcrete e wildcardCluster wildcardAttr g
+endpoint-note e g = refl
+
+pub global-note : (g : ChangedAttrs) → recordWildcard none none g ≡ recordConcrete wildcardEndpoint wildcardCluster wildcardAttr g
+global-note g = refl
 
 -- ---- questions
 

@@ -3,13 +3,13 @@
 use mathlib.Core.Path.{_≡_, refl, sym, ap, _∙_, fun-ext}
 use mathlib.Core.Bool.{Bool, true, false, cond, _&&_, _||_, and-assoc}
 use mathlib.Core.List.{List, [], _∷_, map}
-use mathlib.Core.Option.{Option, none}
+use mathlib.Core.Option.{none}
 use mathlib.Core.Option.{some as just}
-use Prim.Native.Nat.{ℕ, _+_, _-_, _≤_}
+use Prim.Native.Nat.{ℕ, _-_}
 use native.Mathlib.Omega.{arith}
 use borrow.Author.Tests.{ltb-false, not-false}
-use lib.Dec.{eqb, ltb}
-use Rattle.lists.specs.Search.{one, some, count, firstBy, leastBy}
+use lib.Dec.{eqb}
+use Rattle.lists.specs.Search.{one, some, count, leastBy}
 use Rattle.lists.proofs.Bools.{split}
 use Rattle.lists.proofs.Orders.{none-one, count-cons, least-lower}
 use Rattle.lists.proofs.Maps.{some-map, count-map}
@@ -21,8 +21,7 @@ use Rattle.time.specs.Instants.{lastInstant, neverReported}
 use Rattle.changes.specs.Logs as logs
 use Rattle.changes.specs.Logs.{changedSince}
 use Rattle.subscription.specs.declared.Subscription as one
-use Rattle.subscription.specs.When.{dueOf, isDue, nextOf}
-use Rattle.subscription.specs.Life.{blank}
+use Rattle.subscription.specs.When.{dueOf, nextOf}
 use Rattle.subscription.proofs.Laws.{next-most}
 use Rattle.subscription.proofs.Cases.{is-due-is}
 use Rattle.rules.specs.States.{State, counted, hasId}
@@ -33,12 +32,11 @@ use Rattle.rules.proofs.Acts.{act-attribute, act-send, act-any, act-next, act-a
 use Rattle.rules.proofs.Clauses.{attribute-objects, send-objects}
 use Rattle.rules.proofs.Lives.{lives}
 use Rattle.rules.proofs.Objections.{unobjected}
-use Rattle.original.specs.Std.{unwrapOr, mapSome, instantMax, iterMin, minFrom, find}
-use Rattle.original.specs.Log.{containsSince}
-use Rattle.original.specs.Subscription.{Subscription, reportDueAt, nextReportAt}
-use Rattle.original.specs.Contexts.{ReportContext, shouldSendIfEmpty, shouldReportAttr}
+use Rattle.original.specs.Std.{unwrapOr, mapSome, instantMax, iterMin}
+use Rattle.original.specs.Subscription.{reportDueAt, nextReportAt}
+use Rattle.original.specs.Contexts.{shouldSendIfEmpty, shouldReportAttr}
 use Rattle.original.specs.Table.{nextReportOf, nextKeepAliveAt, countFor, totalEstablished, hasSubscriptionFor}
-use Rattle.original.specs.Calls.{reply, asked, fabricAsked, instantAt, callOn}
+use Rattle.original.specs.Calls.{reply, instantAt, callOn}
 use Rattle.original.specs.Likeness.{subscriptionOf, contextOf, logOf, originalOf}
 use Rattle.original.proofs.Alike.{replyOf}
 use Rattle.original.proofs.Opens.{context-found}
@@ -139,7 +137,8 @@ next-instant-same s early events kind =
     go [] h = refl
     go (x ∷ xs) h =
         let instant = ltb-false (lastInstant .ms) (x .retry .ms) (none-one (lateRetry x) (omega (arith, count-cons lateRetry x xs))) in
-        least-is subscriptionOf (nextReportAt (logOf (s .log)) events kind) (nextReportAt (logOf (s .log)) events kind (subscriptionOf x)) xs
+        least-is subscriptionOf (nextReportAt (logOf (s .log)) events kind)
+        (nextReportAt (logOf (s .log)) events kind (subscriptionOf x)) xs
         ∙ ap (λ f. leastBy f (f x) xs) next
         ∙ sym
         (least-lower (λ x. nextOf x (logs.anySince (s .log) (x .seen)) events kind .ms) (lastInstant .ms) x xs

@@ -2,21 +2,18 @@
 -- Assumes nothing.
 use mathlib.Core.Path.{_≡_, refl, sym, ap, _∙_, fun-ext}
 use mathlib.Core.Bool.{Bool, true, false, cond}
-use mathlib.Core.List.{List, [], _∷_, map}
-use mathlib.Core.Option.{Option, none}
+use mathlib.Core.List.{_∷_, map}
+use mathlib.Core.Option.{none}
 use mathlib.Core.Option.{some as just}
-use Prim.Native.Nat.{ℕ, _+_}
 use native.Mathlib.Omega.{arith}
-use lib.ListN.{length}
-use Rattle.lists.specs.Search.{some, count, firstBy}
+use Rattle.lists.specs.Search.{some, firstBy}
 use Rattle.lists.specs.Removal.{takeOut}
 use Rattle.lists.proofs.Bools.{split}
 use Rattle.lists.proofs.Orders.{count-taken, count-every}
 use Rattle.lists.proofs.Maps.{some-map, first-map, taken-map}
 use Rattle.changes.specs.Logs.{watermarkOf}
-use Rattle.subscription.specs.declared.Subscription as one
 use Rattle.subscription.specs.declared.Settings.{Settings}
-use Rattle.subscription.specs.Life.{blank, opened}
+use Rattle.subscription.specs.Life.{blank}
 use Rattle.subscription.proofs.Laws.{opened-reporting}
 use Rattle.subscription.proofs.Cases.{opened-is}
 use Rattle.rules.specs.States.{State, counted}
@@ -24,11 +21,11 @@ use Rattle.rules.specs.Calls as call
 use Rattle.rules.specs.Machine.{withOnes, ready, nextUp, openedIn, act}
 use Rattle.rules.proofs.Acts.{ready-is, act-report, reported-one, reported-none}
 use Rattle.rules.proofs.Clauses.{counted-is}
-use Rattle.original.specs.Std.{position, isSome}
+use Rattle.original.specs.Std.{position}
 use Rattle.original.specs.Log.{watermark}
 use Rattle.original.specs.Subscription.{Subscription, isReportable}
-use Rattle.original.specs.Contexts.{ReportContext, context}
-use Rattle.original.specs.Table.{Subscriptions, withInner, withContexts, swapRemoved, findReportable, handedOut, report, anyReportable}
+use Rattle.original.specs.Contexts.{context}
+use Rattle.original.specs.Table.{Subscriptions, withInner, withContexts, swapRemoved, report, anyReportable}
 use Rattle.original.specs.Calls.{reply, callOn}
 use Rattle.original.specs.Likeness.{subscriptionOf, contextOf, reportingOf, cancelledOf, logOf, originalOf}
 use Rattle.original.proofs.Alike.{replyOf, same-table, Fit}
@@ -50,12 +47,13 @@ module _ (at : Settings) (s : State) where
 
   -- the one found and what is left
   found-same : swapRemoved (position test (map subscriptionOf (s .stored))) (map subscriptionOf (s .stored))
-      ≡ cond (some (ready at s) (s .stored)) (just (subscriptionOf (nextUp at s), map subscriptionOf (takeOut (ready at s) (s .stored)))) none
+      ≡ cond (some (ready at s) (s .stored))
+      (just (subscriptionOf (nextUp at s), map subscriptionOf (takeOut (ready at s) (s .stored)))) none
   found-same =
       first-removed test (subscriptionOf blank) (map subscriptionOf (s .stored))
       ∙ rw (some-same, first-map subscriptionOf test blank (s .stored), taken-map subscriptionOf test (s .stored))
-      (ap (λ p. cond (some (ready at s) (s .stored)) (just (subscriptionOf (firstBy p blank (s .stored)), map subscriptionOf (takeOut p (s .stored)))) none)
-      test-same)
+      (ap (λ p. cond (some (ready at s) (s .stored))
+      (just (subscriptionOf (firstBy p blank (s .stored)), map subscriptionOf (takeOut p (s .stored)))) none) test-same)
 
   -- whether anybody is reportable
   pub any-same : anyReportable at (originalOf s) ≡ some (ready at s) (s .stored)
@@ -120,7 +118,7 @@ module _ (at : Settings) (s : State) where
   report-same fit =
       split (some (ready at s) (s .stored))
       (λ t. rw (act-report at s, reported-one at s t, report-one fit t)
-      (ap (λ x. reply (call.handed (x .id) (x .rx)) (withContexts (contextOf (openedIn at s (nextUp at s)) ∷ map contextOf (s .opens)) left))
-      (opened-plain fit t)
+      (ap (λ x. reply (call.handed (x .id) (x .rx))
+      (withContexts (contextOf (openedIn at s (nextUp at s)) ∷ map contextOf (s .opens)) left)) (opened-plain fit t)
       ∙ ap (reply (call.handed (nextUp at s .id) (nextUp at s .rx))) (left-same fit t)))
       (λ t. rw (act-report at s, reported-none at s t, report-none t))

@@ -1,13 +1,12 @@
 -- A round: turn by turn the Rust hands out and completes what the machine does.
 -- Assumes nothing.
-use mathlib.Core.Path.{_≡_, refl, sym, ap, _∙_}
-use mathlib.Core.Bool.{Bool, true, false, not}
+use mathlib.Core.Path.{_≡_, sym, ap, _∙_}
+use mathlib.Core.Bool.{true, false, not}
 use mathlib.Core.List.{List, [], _∷_, map}
 use mathlib.Core.Option.{none}
-use mathlib.Core.Option.{some as just}
 use Prim.Native.Nat.{ℕ, _+_, _≤_}
 use borrow.Author.Tests.{eq-eqb, ltb-false}
-use lib.ListN.{length, set}
+use lib.ListN.{set}
 use Rattle.lists.specs.Search.{some}
 use Rattle.lists.specs.Removal.{takeOutNewest}
 use Rattle.lists.proofs.Bools.{split, or-neither}
@@ -25,13 +24,12 @@ use Rattle.rules.proofs.Objections.{unobjected}
 use Rattle.rules.proofs.Keeping.{report-sound}
 use Rattle.rules.proofs.Lives.{handed-state, turn-open, turn-found}
 use Rattle.rules.proofs.Steps.{turn-sound, turn-shut}
-use Rattle.original.specs.Contexts.{ReportContext}
-use Rattle.original.specs.Table.{Subscriptions, withContexts, report, reportComplete}
-use Rattle.original.specs.Calls.{Turn, reply, said, turned, turns, rounded, callOn}
+use Rattle.original.specs.Table.{Subscriptions, withContexts, reportComplete}
+use Rattle.original.specs.Calls.{Turn, reply, said, turns, rounded, callOn}
 use Rattle.original.specs.Likeness.{subscriptionOf, contextOf, originalOf}
 use Rattle.original.proofs.Alike.{replyOf, Fit}
 use Rattle.original.proofs.SameReports.{left, report-one, report-none, opened-plain, left-same, any-same}
-use Rattle.original.proofs.SameCompletion.{held, complete-table}
+use Rattle.original.proofs.SameCompletion.{complete-table}
 
 -- where the original stands in a round
 abbrev turnOf : machine.Turn → Turn
@@ -81,7 +79,12 @@ module _ (at : Settings) (o : ℕ) (s : State) (fit : Fit s) (shut : reportOpen 
         identities = rw turn-log (fit .identities);
       }
 
-pub turns-same : (at : Settings) (os : List ℕ) (t : machine.Turn) → Fit (t .state) → reportOpen (t .state) ≡ false → some badOutcome os ≡ false
+-- where the original stands after a turn in which somebody with the id was handed out
+abbrev turnTo : machine.Turn → ℕ → Subscriptions → Turn
+turnTo t id u = record { handOuts = t .handOuts + 1; ids = set (t .ids) (t .handOuts) id; table = u }
+
+pub turns-same : (at : Settings) (os : List ℕ) (t : machine.Turn) → Fit (t .state) → reportOpen (t .state) ≡ false
+    → some badOutcome os ≡ false
     → turns at os (turnOf t) ≡ turnOf (roundFrom at os t)
 unfolding turns contextOf subscriptionOf
 turns-same at [] t fit shut good = ap turnOf (sym (round-over at t))
@@ -90,9 +93,9 @@ turns-same at (o ∷ os) t fit shut good =
     let s = t .state in
     split (some (ready at s) (s .stored))
     (λ f. rw (report-one at s fit f, turns)
-    (ap (λ x. turns at os (record { handOuts = t .handOuts + 1; ids = set (t .ids) (t .handOuts) (x .id); table = reportComplete (said o (contextOf (openedIn at s (nextUp at s)))) (left at s) }))
+    (ap (λ x. turns at os (turnTo t (x .id) (reportComplete (said o (contextOf (openedIn at s (nextUp at s)))) (left at s))))
     (opened-plain at s fit f)
-    ∙ ap (λ u. turns at os (record { handOuts = t .handOuts + 1; ids = set (t .ids) (t .handOuts) (nextUp at s .id); table = u }))
+    ∙ ap (λ u. turns at os (turnTo t (nextUp at s .id) u))
     (turn-table at o s fit shut f (ltb-false 4 o (w .0)))
     ∙ turns-same at os (machine.turned at o t) (turn-fit at o s fit shut f (ltb-false 4 o (w .0))) (turn-shut s at o shut f) (w .1)
     ∙ ap turnOf (sym (round-goes-on at o os t f))))

@@ -12,17 +12,16 @@ use Rattle.time.specs.Instants.{neverReported}
 use Rattle.time.specs.Intervals as time
 use Rattle.changes.specs.declared.ChangedAttrs as changes
 use Rattle.changes.specs.Logs as logs
-use Rattle.subscription.specs.declared.Request.{Request}
 use Rattle.subscription.specs.declared.Subscription as one
 use Rattle.subscription.specs.declared.Choice.{Choice}
 use Rattle.subscription.specs.declared.Choice.the-variants.{All, Fabric, Peer, Id, ExpiredAt}
 use Rattle.subscription.specs.When.{allowedOf, dueOf, reportable, nextOf}
-use Rattle.subscription.specs.Life.{priming, resumed, opened, nextFails, closed, keeps, failed}
+use Rattle.subscription.specs.Life.{opened, nextFails, closed, keeps, failed}
 use Rattle.subscription.specs.Choices.{chosen}
-use Rattle.subscription.proofs.Cases.{allowed-is, due-is, reportable-is, next-is, chosen-all, chosen-fabric, chosen-peer, chosen-id, chosen-expired, keeps-is, failed-is, closed-is, priming-is, resumed-is, opened-is, stored-with-is}
+use Rattle.subscription.proofs.Cases.{allowed-is, due-is, reportable-is, next-is, chosen-all, chosen-fabric, chosen-peer, chosen-id, chosen-expired, keeps-is, failed-is, closed-is, opened-is, stored-with-is}
 use Rattle.original.specs.Std.{unwrapOr, instantMax, checkedAdd}
 use Rattle.original.specs.Subscription.{isExpired, reportAllowedAt, reportDueAt, isReportable, nextReportAt}
-use Rattle.original.specs.Contexts.{ReportContext, context, setKeep, setUnsent, setKeepRetry, setDropFailed, returned}
+use Rattle.original.specs.Contexts.{context, setKeep, setUnsent, setKeepRetry, setDropFailed, returned}
 use Rattle.original.specs.Calls.{said, takes}
 use Rattle.original.specs.Likeness.{subscriptionOf, contextOf, logOf}
 use Rattle.original.proofs.SameTime.{due-after-same, since-same, expired-same, retry-same}
@@ -38,7 +37,8 @@ module _ (x : one.Subscription) where
   pub due-same : (kind : KeepAlive) → reportDueAt (subscriptionOf x) kind ≡ dueOf x kind .ms
   unfolding reportDueAt subscriptionOf
   due-same kind =
-      ap (λ secs. cond (eqb (x .reported .ms) instantMax) 0 (unwrapOr (checkedAdd (x .reported .ms) secs) 0)) (due-after-same kind (x .longest))
+      ap (λ secs. cond (eqb (x .reported .ms) instantMax) 0 (unwrapOr (checkedAdd (x .reported .ms) secs) 0))
+      (due-after-same kind (x .longest))
       ∙ since-same (x .reported) (time.dueAfterSecs kind (x .longest))
       ∙ ap (λ i. i .ms) (sym (due-is x kind))
 
@@ -83,7 +83,8 @@ module _ (x : one.Subscription) where
 
   -- ---- handed out
 
-  pub opened-same : (mark events : ℕ) (now : Instant) → contextOf (opened x mark events now) ≡ context (subscriptionOf x) mark events (now .ms)
+  pub opened-same : (mark events : ℕ) (now : Instant)
+      → contextOf (opened x mark events now) ≡ context (subscriptionOf x) mark events (now .ms)
   unfolding contextOf subscriptionOf
   opened-same mark events now = rw (opened-is x mark events now)
 

@@ -1,12 +1,12 @@
 -- Intervals and instants: the Rust's shifts, saturating and checked sums are document 01's numbers.
 -- Assumes nothing.
-use mathlib.Core.Path.{_≡_, refl, sym, ap, _∙_}
-use mathlib.Core.Bool.{Bool, true, false, cond}
-use Prim.Native.Nat.{ℕ, _+_, _-_, _*_, _^_, _≤_, min, max}
+use mathlib.Core.Path.{_≡_, sym}
+use mathlib.Core.Bool.{Bool, false, cond}
+use Prim.Native.Nat.{ℕ, _+_, _-_, _*_, min}
 use native.Mathlib.Omega.{arith}
 use borrow.Author.Tests.{leb-true, leb-false}
 use lib.Dec.{eqb, leb}
-use lib.Pow.{pow-lt, pow-mono, shl-exact}
+use lib.Pow.{shl-exact}
 use Rattle.lists.proofs.Bools.{split}
 use Rattle.time.specs.declared.Instant.{Instant}
 use Rattle.time.specs.declared.KeepAlive.{KeepAlive}
@@ -48,7 +48,8 @@ module _ (from : Instant) (secs : ℕ) where
   abbrev within : Bool
   within = leb (from .ms + secs * 1000) instantMax
 
-  pub since-same : cond (eqb (from .ms) instantMax) instantMin (unwrapOr (checkedAdd (from .ms) secs) instantMin) ≡ sinceReport from secs .ms
+  pub since-same :
+      cond (eqb (from .ms) instantMax) instantMin (unwrapOr (checkedAdd (from .ms) secs) instantMin) ≡ sinceReport from secs .ms
   unfolding checkedAdd
   since-same =
       split (eqb (from .ms) instantMax)

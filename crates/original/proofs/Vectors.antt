@@ -1,14 +1,14 @@
--- The Rust's ways with a vector against those of crate lists: a loop over an index with swap_remove is a sweep, position and find give the first
--- one that a test holds of.
+-- The Rust's ways with a vector against those of crate lists: a loop over an index with swap_remove is a sweep, position and find give the
+-- first one that a test holds of.
 -- Assumes nothing.
 use mathlib.Core.Path.{_≡_, refl, sym, ap, _∙_}
 use mathlib.Core.Bool.{Bool, true, false, cond}
 use mathlib.Core.List.{List, [], _∷_, map}
 use mathlib.Core.Option.{Option, none}
 use mathlib.Core.Option.{some as just}
-use Prim.Native.Nat.{ℕ, zero, suc, _+_, _≤_, min}
+use Prim.Native.Nat.{ℕ, zero, suc, min}
 use native.Mathlib.Omega.{arith}
-use lib.ListN.{length, take, set, getD, getElem?}
+use lib.ListN.{length, take, getD, getElem?}
 use Rattle.lists.specs.Search.{some, changeFirst, firstBy, leastBy}
 use Rattle.lists.specs.Removal.{lastOf, initOf, refilled, sweepFor, sweep, takeOut}
 use Rattle.lists.proofs.Bools.{split}

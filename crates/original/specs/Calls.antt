@@ -1,5 +1,5 @@
--- The calls of document 01, made on the original: which functions of the Rust each stands for, and what is told of their answers. A round is
--- reports and completions at one instant. What only document 01 refuses is no matter of the Rust: a context that nobody holds cannot be
+-- The calls of document 01, made on the original: which functions of the Rust each stands for, and what is told of their answers. A round
+-- is reports and completions at one instant. What only document 01 refuses is no matter of the Rust: a context that nobody holds cannot be
 -- asked.
 -- Assumes nothing.
 use mathlib.Core.Bool.{Bool, true, false, cond, not, _&&_}
@@ -17,8 +17,8 @@ use Rattle.subscription.specs.declared.Choice.the-variants.{All, Fabric, Peer, 
 use Rattle.subscription.specs.declared.Settings.{Settings}
 use Rattle.rules.specs.Calls as call
 use Rattle.rules.specs.Calls.{Op, Answer}
-use Rattle.original.specs.Std.{mapSome, isSome, instantMin, instantMax, find}
-use Rattle.original.specs.Log.{ChangedAttrs, recordConcrete}
+use Rattle.original.specs.Std.{mapSome, instantMin, instantMax, find}
+use Rattle.original.specs.Log.{recordConcrete}
 use Rattle.original.specs.Subscription.{Subscription, isExpired}
 use Rattle.original.specs.Contexts.{ReportContext, withNextReportedAt, setKeep, setUnsent, setKeepRetry, setDropFailed, shouldSendIfEmpty, shouldReportAttr}
 use Rattle.original.specs.Table.{Subscriptions, newTable, withLog, withContexts, addWithId, report, reportComplete, remove, clear, purgeReportedChanges, nextReportOf, anyReportable, nextKeepAliveAt, countFor, totalEstablished, hasSubscriptionFor}
@@ -36,7 +36,7 @@ instantAt ms = record { ms = ms }
 
 -- ---- admission
 
--- `add`: the caller holds the context
+-- `Subscriptions::add`: the caller holds the context
 abbrev pub added : Option (ReportContext × Subscriptions) → Subscriptions → Reply
 added none t = reply (call.refused Full) t
 added (just (c, counted)) t = reply (call.number (c .subscription .id)) (withContexts (c ∷ counted .contexts) counted)
@@ -49,7 +49,7 @@ resumed (just (c, counted)) t =
 
 -- ---- reports
 
--- `report`: the caller holds the context
+-- `Subscriptions::report`: the caller holds the context
 abbrev pub reported : Option (ReportContext × Subscriptions) → Subscriptions → Reply
 reported none t = reply call.nothing t
 reported (just (c, left)) t =
@@ -124,6 +124,7 @@ rounded at t = reply (call.rounded (t .handOuts) (not (anyReportable at (t .tabl
 
 -- ---- the calls
 
+-- A note is `notify_attr_changed`; `notify_cluster_changed`, `notify_endpoint_changed` and `notify_all_changed` are notes with wild fields.
 unfoldable pub callOn : Op → Subscriptions → Reply
 callOn (call.new capacity) t = reply (call.number capacity) (newTable capacity)
 callOn (call.add request events now) t = added (addWithId none (now .ms) request events t) t

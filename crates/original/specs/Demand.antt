@@ -26,7 +26,8 @@ InDomain capacity ops = some strays (answers ops (fresh capacity)) ≡ false
 -- "each answer and the state after it": what begins a history of the domain is one, so that this is the state after each call
 abbrev pub SameAsOriginal : ℕ → List Op → Type 0
 SameAsOriginal capacity ops =
-    (answered ops (newTable capacity) ≡ answers ops (fresh capacity)) × (after ops (newTable capacity) ≡ originalOf (run ops (fresh capacity)))
+    (answered ops (newTable capacity) ≡ answers ops (fresh capacity))
+    × (after ops (newTable capacity) ≡ originalOf (run ops (fresh capacity)))
 
 -- "On every history", "a capacity from 1 to 80"
 abbrev pub Demand2 : Type 0

@@ -8,3 +8,4 @@ pub mod Table
 pub mod Calls
 pub mod Likeness
 pub mod Demand
+pub mod Programs

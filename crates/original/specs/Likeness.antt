@@ -1,6 +1,6 @@
 -- The map between the two states: the Rust's table for a state of document 01's machine.
 -- Assumes nothing.
-use mathlib.Core.Bool.{Bool, true, false, cond}
+use mathlib.Core.Bool.{cond}
 use mathlib.Core.List.{List, [], _∷_, map}
 use mathlib.Core.Option.{Option, none}
 use mathlib.Core.Option.{some as just}

@@ -1,7 +1,7 @@
 -- `Subscription` of subscriptions.rs, function by function: one subscription, with the number of its request, which the Rust holds in a
--- vector of buffers beside it, at the same place.
+-- vector of buffers at the same place. What the Rust asks of the bytes, none of its functions uses.
 -- Assumes nothing.
-use mathlib.Core.Bool.{Bool, true, false, cond, not, _&&_, _||_}
+use mathlib.Core.Bool.{Bool, false, cond, not, _&&_, _||_}
 use Prim.Native.Nat.{ℕ, max}
 use lib.Dec.{eqb, leb, ltb}
 use Rattle.time.specs.declared.KeepAlive.{KeepAlive}

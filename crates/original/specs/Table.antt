@@ -1,5 +1,5 @@
--- `Subscriptions` and `SubscriptionsInner` of subscriptions.rs, function by function: the table. The contexts that callers hold stand beside
--- it. Nothing is refused but what the Rust refuses.
+-- `Subscriptions` and `SubscriptionsInner` of subscriptions.rs, function by function: the table. The contexts that callers hold stand
+-- beside it. Nothing is refused but what the Rust refuses.
 -- Assumes nothing.
 use mathlib.Core.Bool.{Bool, true, false, cond, _&&_, _||_}
 use mathlib.Core.List.{List, [], _∷_, _++_, map}
@@ -126,7 +126,7 @@ addWithId asked now request events t =
     (let id : ℕ = unwrapOr asked (t .nextSubscriptionId) in
     just (context (fresh id request (t .changedAttrs)) (watermark (t .changedAttrs)) events now, counting id t))
 
--- ---- `Subscriptions::report`
+-- ---- `Subscriptions::report`, without its debug assertions that no report is open: a second one takes the slot
 
 -- `SubscriptionsInner::find_reportable`
 abbrev pub findReportable : Settings → Subscriptions → Option ℕ
@@ -155,7 +155,8 @@ handedOut at t (just (s, others)) =
 unfoldable pub report : Settings → Subscriptions → Option (ReportContext × Subscriptions)
 report at t = handedOut at t (swapRemoved (findReportable at t) (t .subscriptions))
 
--- ---- `SubscriptionsInner::report_complete`, after the values of the context were put into the subscription
+-- ---- `SubscriptionsInner::report_complete`, after the values of the context were put into the subscription. Its push is unwrapped: there is
+-- room while the count is right.
 
 -- `self.reporting.as_ref().is_some_and(|reporting| reporting.ids.id == sub.ids.id)`
 abbrev pub ownsSlot : ℕ → Option Subscription → Bool
@@ -215,7 +216,7 @@ remove f reason t =
           (cond (cancels f (t .reporting) (t .reportingCancelled)) (just reason) (t .reportingCancelled)) t,
     )
 
--- ---- `SubscriptionsInner::clear`, whose reason "subscriptions cleared" has the number 255
+-- ---- `SubscriptionsInner::clear`, whose reason "subscriptions cleared" has the number 255; the requests go with the subscriptions
 
 unfoldable pub clear : Subscriptions → Subscriptions
 clear t =

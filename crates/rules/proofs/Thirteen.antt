@@ -20,7 +20,7 @@ req = record { peer = 7; shortest = 1; longest = 60; rx = 0; fabric = 1 }
 abbrev rep : ℕ → Op
 rep ms = call.report (record { now = instant ms; events = 0; kind = Default; all = false })
 
-abbrev thirteenLines : Diary
+abbrev pub thirteenLines : Diary
 thirteenLines =
     (call.new 2, call.number 2)
     ∷ (call.add req 0 (instant 1000), call.number 1)

@@ -11,7 +11,6 @@ use Rattle.time.specs.Intervals.{dueAfterSecs}
 use Rattle.time.specs.Moments.{sinceReport, expired}
 use Rattle.subscription.specs.declared.Request.{Request}
 use Rattle.subscription.specs.declared.Subscription.{Subscription}
-use Rattle.subscription.specs.declared.Choice.{Choice}
 use Rattle.subscription.specs.declared.Choice.the-variants.{All, Fabric, Peer, Id, ExpiredAt}
 use Rattle.subscription.specs.When.{gateOf, allowedOf, dueOf, isDue, pending, along, reportable, nextOf, isOver}
 use Rattle.subscription.specs.Life.{priming, resumed, opened, storedWith, closedSent, closedUnsent, closedRetry, closed, givesUp, keeps, failed}
