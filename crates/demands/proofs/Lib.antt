@@ -1,3 +1,4 @@
 pub mod Histories
 pub mod Unheard
+pub mod Carried
 pub mod Original

@@ -186,13 +186,14 @@ module _ (m : ℕ) (all : m + 4 ≡ 18446744073709551616) where
 
   -- every other hypothesis holds
   pub still-unheard : (idLive 1 (run before (fresh 2)) ≡ true) × (unheard 1 (since m) (noted 2 before 3 6 0) ≡ true)
-  still-unheard =
-      (ap (idLive 1) begins ∙ live 1 2,
-      ap (unheard 1 (since m)) second
-      ∙ ap (λ ops. unheardBy 1 false ops (held 2 3)) (plain-since m (held 2 3))
-      ∙ unheard-notes m 2 (theNote ∷ theNote ∷ call.report (at 61000) ∷ []) (omega arith) (omega arith)
-      ∙ unheard-round (call.report (at 61000) ∷ [])
-      ∙ unheard-report)
+  still-unheard = (
+    ap (idLive 1) begins ∙ live 1 2,
+    ap (unheard 1 (since m)) second
+        ∙ ap (λ ops. unheardBy 1 false ops (held 2 3)) (plain-since m (held 2 3))
+        ∙ unheard-notes m 2 (theNote ∷ theNote ∷ call.report (at 61000) ∷ []) (omega arith) (omega arith)
+        ∙ unheard-round (call.report (at 61000) ∷ [])
+        ∙ unheard-report,
+  )
 
   -- and the answer is no
   pub told-no-change : step (call.attribute 1 3 6 0) (run (since m) (noted 2 before 3 6 0)) .answer ≡ call.yesNo false

@@ -2,9 +2,10 @@
 -- The next instant is a least over the stored ones and the last instant: `Least` compares. That a retry is an instant, which the code has by its
 -- widths, holds on every history, since it is one when it is made.
 -- Assumes nothing.
-use mathlib.Core.Path.{_≡_, ap}
+use mathlib.Core.Path.{_≡_, ap, _∙_}
 use mathlib.Core.Bool.{true, false, not}
-use mathlib.Core.List.{List}
+use mathlib.Core.List.{List, []}
+use mathlib.Core.Option.{none}
 use mathlib.Core.Logic.{_⊎_, inl, inr}
 use Prim.Native.Nat.{ℕ, _≤_, _<_}
 use native.Mathlib.Omega.{arith}
@@ -19,11 +20,14 @@ use Rattle.changes.specs.Logs.{watermarkOf}
 use Rattle.subscription.specs.declared.Subscription.{Subscription}
 use Rattle.subscription.specs.Life.{priming, resumed, closed}
 use Rattle.subscription.proofs.Laws.{priming-retry, resumed-retry, opened-retry, closed-retry}
-use Rattle.rules.specs.States.{State, fresh}
+use Rattle.rules.specs.States.{State, fresh, capacityFits}
 use Rattle.rules.specs.Calls as call
 use Rattle.rules.specs.Calls.{Op}
 use Rattle.rules.specs.Histories.{lateRetry, retriesFit}
-use Rattle.rules.specs.Machine.{nextUp, openWith, nextInstantIn, anyReportableIn, run}
+use Rattle.rules.specs.Machine.{nextUp, openWith, nextInstantIn, anyReportableIn, firstOf, objections, refusal, act, step, run}
+use Rattle.rules.proofs.Clauses.{refusal-kept, first-none, instant-objects, any-objects}
+use Rattle.rules.proofs.Refusals.{unrefused-acts}
+use Rattle.rules.proofs.Kept.{always-well-kept}
 use Rattle.rules.proofs.Least.{before-last, with-stored}
 use Rattle.rules.proofs.Lives.{lives}
 use Rattle.rules.proofs.Nobody.{Spares, nobody-ever}
@@ -73,3 +77,19 @@ pub any-is-next-ever : (c : ℕ) (ops : List Op) (now : Instant) (events : ℕ) 
     → (now .ms < 18446744073709551615) ⊎ (0 < length (run ops (fresh c) .stored))
     → anyReportableIn now events kind (run ops (fresh c)) ≡ leb (nextInstantIn events kind (run ops (fresh c)) .ms) (now .ms)
 any-is-next-ever c ops now events kind h = any-is-next now events kind (run ops (fresh c)) (retries-fit c ops) h
+
+-- the two calls answer so
+pub any-answers-next : (c : ℕ) (ops : List Op) (now : Instant) (events : ℕ) (kind : KeepAlive) → capacityFits c ≡ true
+    → (now .ms < 18446744073709551615) ⊎ (0 < length (run ops (fresh c) .stored))
+    → let s = run ops (fresh c) in let next = nextInstantIn events kind s in
+    (step (call.nextInstant events kind) s .answer ≡ call.instant next)
+    × (step (call.anyReportable now events kind) s .answer ≡ call.yesNo (leb (next .ms) (now .ms)))
+unfolding act
+any-answers-next c ops now events kind able h =
+    let s = run ops (fresh c) in
+    let well = always-well-kept c ops able in
+    let free : (op : Op) → objections op s ≡ [] → refusal op s ≡ none = λ op e. refusal-kept op s well ∙ ap firstOf e ∙ first-none in (
+      ap (λ r. r .answer) (unrefused-acts (call.nextInstant events kind) s (free (call.nextInstant events kind) (instant-objects s events kind))),
+      ap (λ r. r .answer) (unrefused-acts (call.anyReportable now events kind) s (free (call.anyReportable now events kind) (any-objects s now events kind)))
+          ∙ ap call.yesNo (any-is-next-ever c ops now events kind h),
+    )
