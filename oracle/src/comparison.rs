@@ -3,6 +3,7 @@
 //! two is right.
 
 use std::collections::BTreeMap;
+use std::fmt;
 use std::io::{Read, Write};
 use std::panic::{catch_unwind, set_hook, take_hook, AssertUnwindSafe};
 use std::path::PathBuf;
@@ -25,6 +26,16 @@ pub enum Driver {
         path: PathBuf,
         arguments: Vec<String>,
     },
+}
+
+impl fmt::Display for Driver {
+    fn fmt(&self, text: &mut fmt::Formatter) -> fmt::Result {
+        match self {
+            Driver::Original => write!(text, "the original"),
+            Driver::Second => write!(text, "the second implementation"),
+            Driver::Program { path, .. } => write!(text, "{}", path.display()),
+        }
+    }
 }
 
 /// All that a driver answered, and whether it ended as it should.

@@ -1,5 +1,5 @@
-//! Compares the original with the second implementation, or with a port given by
-//! path, on histories with a seed: every answer and every state.
+//! Compares the original with the second implementation, and with the programs of
+//! the port given by path, on histories with a seed: every answer and every state.
 
 use std::time::Instant;
 
@@ -8,7 +8,7 @@ use oracle::comparison::{printable, Difference, Driver, Pair, Tally};
 use oracle::histories::{Histories, Kind, Language};
 
 const USAGE: &str =
-    "compare [--calls N] [--seed S] [--kind K] [--port REPLAY] [--trace-port TRACE]";
+    "compare [--calls N] [--seed S] [--kind K] [--least N] [--port REPLAY] [--trace-port TRACE]";
 
 /// After so many differences the rest would say the same again.
 const ENOUGH: u64 = 5;
@@ -38,15 +38,20 @@ const TURNS: [(Language, Kind); 18] = [
 ];
 
 fn main() {
-    let known = ["--calls", "--seed", "--kind", "--port", "--trace-port"];
+    let known = [
+        "--calls",
+        "--seed",
+        "--kind",
+        "--least",
+        "--port",
+        "--trace-port",
+    ];
     let arguments = Arguments::read(USAGE, &known);
     let turns = turns(&arguments);
     let calls: u64 = arguments.number("--calls", 100_000);
     let seed: u64 = arguments.number("--seed", 1);
-    let replay_pair = pair(arguments.text("--port"));
-    let trace_pair = pair(arguments.text("--trace-port"));
-    println!("replay: {:?} and {:?}", replay_pair.left, replay_pair.right);
-    println!("trace: {:?} and {:?}", trace_pair.left, trace_pair.right);
+    let replay_pairs = pairs("replay", arguments.text("--port"));
+    let trace_pairs = pairs("trace", arguments.text("--trace-port"));
 
     let begun = Instant::now();
     let mut histories = Histories::new(seed);
@@ -58,14 +63,23 @@ fn main() {
             break;
         }
         // The trace has fewer kinds of lines, so fewer of them do.
-        let (pair, lines) = match language {
-            Language::Replay => (&replay_pair, batch),
-            Language::Trace => (&trace_pair, batch * 7 / 8),
+        let (pairs, lines) = match language {
+            Language::Replay => (&replay_pairs, batch),
+            Language::Trace => (&trace_pairs, batch * 7 / 8),
         };
         let input = histories.batch(*language, *kind, lines as usize);
-        if let Some(difference) = pair.compare(*language, *kind, &input, &mut tally) {
-            differences += 1;
-            print_difference(*kind, &difference);
+        // Each pair is given the same lines, which are counted with the first.
+        let mut uncounted = Tally::default();
+        for (place, pair) in pairs.iter().enumerate() {
+            let counts = if place == 0 {
+                &mut tally
+            } else {
+                &mut uncounted
+            };
+            if let Some(difference) = pair.compare(*language, *kind, &input, counts) {
+                differences += 1;
+                print_difference(*kind, &pair.right, &difference);
+            }
         }
     }
 
@@ -81,7 +95,11 @@ fn main() {
         tally.total(),
         begun.elapsed().as_secs_f64()
     );
-    std::process::exit(i32::from(differences > 0));
+    let too_few = tally.least() < arguments.number("--least", 0);
+    if too_few {
+        println!("too few lines of a kind");
+    }
+    std::process::exit(i32::from(differences > 0 || too_few));
 }
 
 /// All turns, or those of the kind that was asked for.
@@ -95,23 +113,31 @@ fn turns(arguments: &Arguments) -> Vec<(Language, Kind)> {
     turns
 }
 
-fn pair(port: Option<&str>) -> Pair {
-    let right = port.map(|path| Driver::Program {
+/// The original beside the port's program, if there is one, and beside the second implementation.
+fn pairs(language: &str, port: Option<&str>) -> Vec<Pair> {
+    let program = port.map(|path| Driver::Program {
         path: path.into(),
         arguments: Vec::new(),
     });
-    Pair {
-        left: Driver::Original,
-        right: right.unwrap_or(Driver::Second),
-    }
+    let others = program.into_iter().chain([Driver::Second]);
+    let pairs = others.map(|right| {
+        println!("{language}: {} and {}", Driver::Original, right);
+        Pair {
+            left: Driver::Original,
+            right,
+        }
+    });
+    pairs.collect()
 }
 
-fn print_difference(kind: Kind, difference: &Difference) {
+fn print_difference(kind: Kind, other: &Driver, difference: &Difference) {
     println!("difference in a history of kind {}:", kind.name());
     for line in &difference.history {
         println!("    {}", printable(line));
     }
-    println!("  the original answers {}", printable(&difference.left));
-    println!("  the other answers    {}", printable(&difference.right));
+    println!("  {} answers", Driver::Original);
+    println!("    {}", printable(&difference.left));
+    println!("  {other} answers");
+    println!("    {}", printable(&difference.right));
     println!();
 }
