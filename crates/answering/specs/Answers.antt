@@ -17,6 +17,7 @@ use Rattle.answering.specs.declared.Answered.{Answered}
 use Rattle.answering.specs.declared.Reply.{Reply}
 use Rattle.answering.specs.Replies.{told, refusedWith, admissionReply, hearingReply, handOutReply, completionReply, toldReply, momentReply}
 
+-- a table and a reply
 abbrev pub answered : Table → Reply → Answered
 answered t reply = record { table = t; reply = reply }
 
@@ -32,19 +33,24 @@ abbrev pub renewedBy : Table → Change → Table → Answered
 renewedBy t change.Done made = answered made (told (made .capacity))
 renewedBy t (change.Refused why) made = answered t (refusedWith why)
 
+-- new,capacity
 unfoldable pub renewedIn : Table → ℕ → Answered
 renewedIn t capacity = renewedBy t (newTable capacity .answer) (newTable capacity .table)
 
+-- add,now,fabric,peer,min,max,events,rx
 unfoldable pub addedIn : Table → Request → ℕ → ℕ → Answered
 addedIn t request events now =
     answered (addTo t request events (instant now) .table) (admissionReply (addTo t request events (instant now) .answer))
 
+-- note,endpoint,cluster,attribute
 unfoldable pub notedIn : Table → ℕ → ℕ → ℕ → Answered
 notedIn t endpoint cluster attr = answered (noteIn t endpoint cluster attr .table) (hearingReply (noteIn t endpoint cluster attr .answer))
 
+-- report,now,events,icd,all
 unfoldable pub reportedIn : Table → Settings → Answered
 reportedIn t at = answered (reportIn t at .table) (handOutReply (reportIn t at .answer))
 
+-- done,id,outcome
 unfoldable pub doneIn : Table → ℕ → ℕ → Answered
 doneIn t id outcome = answered (completeIn t id outcome .table) (completionReply (completeIn t id outcome .answer))
 

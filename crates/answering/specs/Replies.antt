@@ -18,6 +18,7 @@ use Rattle.table.specs.declared.Hearing.the-variants as hearing
 use Rattle.table.specs.declared.Moment.the-variants as moment
 use Rattle.answering.specs.declared.Reply.{Reply}
 
+-- not refused: code 0 and a value
 abbrev pub told : ℕ → Reply
 told value = record { code = 0; value = value }
 

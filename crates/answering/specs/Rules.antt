@@ -50,13 +50,16 @@ pub record Said : Type 0 where
   pub reply : Reply
   pub state : State
 
+-- as the machine answers
 abbrev pub saidBy : Outcome → Said
 saidBy o = record { reply = replyOf (o .answer); state = o .state }
 
+-- by the line's call
 abbrev pub lineBy : Option Op → State → Said
 lineBy none s = record { reply = refusedWith BadLine; state = s }
 lineBy (just op) s = saidBy (step op s)
 
+-- one line by the rules
 unfoldable pub lineStep : Line → State → Said
 lineStep l s = lineBy (callOf l) s
 

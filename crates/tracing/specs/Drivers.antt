@@ -6,10 +6,12 @@ use lib.ListN.{take}
 use Rattle.tracing.specs.declared.Session.{Session}
 use Rattle.tracing.specs.Runs.{Work, runOf, finishOf}
 
+-- a chunk and a buffer
 pub record Turn : Type 0 where
   pub chunk : List ℕ
   pub buffer : List ℕ
 
+-- the run over them
 abbrev pub turned : Session → List ℕ → Turn → Work
 turned x held t = runOf x held (t .chunk) (t .buffer)
 

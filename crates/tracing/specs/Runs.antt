@@ -20,6 +20,7 @@ use Rattle.answering.specs.Answers.{answerIn}
 use Rattle.tracing.specs.declared.Session.{Session}
 use Rattle.tracing.specs.declared.Ran.{Ran}
 
+-- what is carried from chunk to chunk
 abbrev pub sessionOf : Table → Reading → Session
 sessionOf t r = record { table = t; reading = r }
 
@@ -27,6 +28,7 @@ sessionOf t r = record { table = t; reading = r }
 unfoldable pub startOf : Session
 startOf = sessionOf (newTable 80 .table) (freshOf 1000000 0)
 
+-- what a run answers
 abbrev pub ranTo : Table → Reading → ℕ → ℕ → Ran
 ranTo t r used wrote = record { session = sessionOf t r; used = used; wrote = wrote }
 
@@ -38,13 +40,15 @@ pub record Work : Type 0 where
   pub used : ℕ
   pub wrote : ℕ
 
+-- a run's answer with both buffers behind it
 abbrev pub worked : Ran → List ℕ → List ℕ → Work
 worked r held out = record { session = r .session; held = held; out = out; used = r .used; wrote = r .wrote }
 
+-- a run before its first byte
 abbrev pub begun : Session → List ℕ → List ℕ → Work
 begun x held out = record { session = x; held = held; out = out; used = 0; wrote = 0 }
 
--- the line that was found
+-- the line that was found; where none was, a bad one
 abbrev pub lineFound : List ℕ → Found → Line
 lineFound held found.Nothing = Bad
 lineFound held found.Bad = Bad
@@ -67,12 +71,13 @@ answeredTo x l =
     let p : ℕ × List ℕ = putOf answerRoom (x .out) (x .wrote) (textOf t (r .number) l) in
     record { session = sessionOf (answerIn t l .table) r; held = x .held; out = p .1; used = x .used; wrote = p .0 }
 
+-- what was found is answered, if a line was
 abbrev pub told : Work → Found → Work
 told x found.Nothing = x
 told x found.Bad = answeredTo x Bad
 told x (found.Whole n) = answeredTo x (lineOf (take n (x .held)))
 
--- one byte
+-- one byte: a step of the reading, and the answer of the line that it ends
 unfoldable pub byteIn : Work → ℕ → Work
 byteIn x b =
     told (moved x (stepOf (x .session .reading) (x .held) b .0 .reading) (stepOf (x .session .reading) (x .held) b .1) 1)
@@ -83,13 +88,15 @@ unfoldable pub runFrom : Work → List ℕ → Work
 runFrom x [] = x
 runFrom x (b ∷ s) = elim (leb (x .wrote + answerRoom) (length (x .out))) [ true ↦ runFrom (byteIn x b) s | false ↦ x ]
 
+-- a chunk from its first byte on
 abbrev pub runOf : Session → List ℕ → List ℕ → List ℕ → Work
 runOf x held s out = runFrom (begun x held out) s
 
--- the input's end
+-- the input's end: a last line without its CRLF is answered
 abbrev pub closed : Work → Work
 closed x =
     told (moved x (closeOf (x .session .reading) .reading) (x .held) 0) (closeOf (x .session .reading) .found)
 
+-- how many bytes are written there, and the buffer behind them
 unfoldable pub finishOf : Session → List ℕ → List ℕ → ℕ × List ℕ
 finishOf x held out = (closed (begun x held out) .wrote, closed (begun x held out) .out)
