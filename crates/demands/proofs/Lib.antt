@@ -2,3 +2,4 @@ pub mod Histories
 pub mod Unheard
 pub mod Carried
 pub mod Original
+pub mod Programs

@@ -97,8 +97,3 @@ yes-to-every-attribute-shut-out m =
     ≡ call.number 1 ∷ call.completed true false ∷ call.heard 1 true ∷ call.handed 1 5 ∷ call.yesNo false ∷ [] = m 80 refl unchanged refl in
     let z : _≡_ {A = ℕ} 0 1 = cc in
     omega arith
-
--- It answers every question about an attribute by yes, whatever was noted. The first half of demand 3 asks for no other answer.
-pub yes-is-always-heard : (id endpoint cluster attr : ℕ) (s : State)
-    → yesToEveryAttribute (call.attribute id endpoint cluster attr) s .0 ≡ call.yesNo true
-yes-is-always-heard id endpoint cluster attr s = refl

@@ -28,9 +28,11 @@ pub record Reply : Type 0 where
   pub answer : Answer
   pub table : Subscriptions
 
+-- this answer and this table
 abbrev pub reply : Answer → Subscriptions → Reply
 reply answer t = record { answer = answer; table = t }
 
+-- the instant of so many milliseconds
 abbrev pub instantAt : ℕ → Instant
 instantAt ms = record { ms = ms }
 
@@ -71,10 +73,12 @@ dropped c t =
     let left : Subscriptions = reportComplete c t in
     reply (call.completed (ltb (length (t .subscriptions)) (length (left .subscriptions))) (c .reportFailed)) left
 
+-- the caller says how its report ended, and drops the context that it holds
 abbrev pub completed : Option ReportContext → ℕ → ℕ → Subscriptions → Reply
 completed none id outcome t = reply (call.refused NotOpen) t
 completed (just c) id outcome t = dropped (said outcome c) (withContexts (takeOutNewest (holdsId id) (t .contexts)) t)
 
+-- by the id of the subscription
 unfoldable pub complete : ℕ → ℕ → Subscriptions → Reply
 complete id outcome t = completed (find (holdsId id) (t .contexts)) id outcome t
 
@@ -119,6 +123,7 @@ unfoldable pub turns : Settings → List ℕ → Turn → Turn
 turns at [] t = t
 turns at (outcome ∷ rest) t = elim (report at (t .table)) [ none ↦ t | just r ↦ turns at rest (turned outcome r t) ]
 
+-- how many were handed out, and whether nobody stored is reportable then
 abbrev pub rounded : Settings → Turn → Reply
 rounded at t = reply (call.rounded (t .handOuts) (not (anyReportable at (t .table))) (t .ids)) (t .table)
 

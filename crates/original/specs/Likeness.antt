@@ -49,6 +49,7 @@ cancelledOf reason = cond (eqb reason 0) none (just reason)
 unfoldable pub logOf : changes.ChangedAttrs → ChangedAttrs
 logOf g = record { nextChangeId = g .next; entries = entriesOf g }
 
+-- the table, with the contexts of the open ones; counted are the stored and the open ones
 unfoldable pub originalOf : State → Subscriptions
 originalOf s =
     record {

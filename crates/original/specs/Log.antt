@@ -82,10 +82,12 @@ collapse (suc n) coarsened i maxChangeId entries =
 abbrev pub collapsed : ChangedAttr → ℕ × List ChangedAttr → List ChangedAttr
 collapsed coarsened left = left .1 ++ (withChangeId (left .0) coarsened ∷ [])
 
+-- the best pivot, coarsened
 abbrev pub coarsenedBy : ℕ → Option ChangedAttr → Option ChangedAttr
 coarsenedBy level none = none
 coarsenedBy level (just pivot) = coarsen level pivot
 
+-- its group collapsed
 abbrev pub promoted : Option ChangedAttr → List ChangedAttr → Option (List ChangedAttr)
 promoted none entries = none
 promoted (just coarsened) entries = just (collapsed coarsened (collapse (length entries) coarsened 0 0 entries))

@@ -19,9 +19,15 @@ abbrev pub Program : Type 0 → Type 0
 Program S = Op → S → Answer × S
 
 module _ {S : Type 0} where
+  -- its answers on a history
   unfoldable pub told : Program S → List Op → S → List Answer
   told p [] s = []
   told p (op ∷ ops) s = p op s .0 ∷ told p ops (p op s .1)
+
+  -- its state after it
+  unfoldable pub reached : Program S → List Op → S → S
+  reached p [] s = s
+  reached p (op ∷ ops) s = reached p ops (p op s .1)
 
   -- demand 2 of its answers, from the state with which it begins at a capacity
   abbrev pub Meets : (ℕ → S) → Program S → Type 0
@@ -64,7 +70,7 @@ madeUpCount n op s = (recount n (step op s .answer), step op s .state)
 abbrev pub doesNothing : Program State
 doesNothing op s = (step op s .answer, s)
 
--- "working in the first round only": after the first round, rounds find nobody; the flag says that there was one
+-- is the call a round
 abbrev pub isRound : Op → Bool
 isRound (call.new capacity) = false
 isRound (call.add request events now) = false
@@ -84,13 +90,14 @@ isRound (call.statistics fabric) = false
 isRound (call.hasSubscription fabric peer) = false
 isRound (call.round at outcomes ids) = true
 
+-- "working in the first round only": after the first round, rounds hand out nobody; the flag says that there was one
 abbrev pub firstRoundOnly : Program (State × Bool)
 firstRoundOnly op (s, before) =
     cond (isRound op)
     (cond before (recount 0 (step op s .answer), (s, true)) (step op s .answer, (step op s .state, true)))
     (step op s .answer, (step op s .state, before))
 
--- "Yes to every attribute"
+-- is the call a question about an attribute
 abbrev pub isAttribute : Op → Bool
 isAttribute (call.new capacity) = false
 isAttribute (call.add request events now) = false
@@ -110,5 +117,6 @@ isAttribute (call.statistics fabric) = false
 isAttribute (call.hasSubscription fabric peer) = false
 isAttribute (call.round at outcomes ids) = false
 
+-- "Yes to every attribute", whoever is asked
 abbrev pub yesToEveryAttribute : Program State
 yesToEveryAttribute op s = (cond (isAttribute op) (call.yesNo true) (step op s .answer), step op s .state)

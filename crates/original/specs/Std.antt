@@ -97,11 +97,12 @@ module _ {A : Type 0} where
         | just x ↦ elim (p x) [ true ↦ removeWhile n p i (swapRemove i l) | false ↦ removeWhile n p (suc i) l ]
       ]
 
--- `Iterator::min`
+-- `Iterator::min`, under way
 unfoldable pub minFrom : ℕ → List ℕ → ℕ
 minFrom least [] = least
 minFrom least (n ∷ ns) = minFrom (min least n) ns
 
+-- `Iterator::min`
 abbrev pub iterMin : List ℕ → Option ℕ
 iterMin [] = none
 iterMin (n ∷ ns) = just (minFrom n ns)

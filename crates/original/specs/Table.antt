@@ -60,6 +60,7 @@ withInner subscriptionsCount subscriptions reporting reportingCancelled t =
       contexts = t .contexts;
     }
 
+-- with another log
 abbrev pub withLog : ChangedAttrs → Subscriptions → Subscriptions
 withLog changedAttrs t =
     record {
@@ -73,6 +74,7 @@ withLog changedAttrs t =
       contexts = t .contexts;
     }
 
+-- with other contexts in callers' hands
 abbrev pub withContexts : List ReportContext → Subscriptions → Subscriptions
 withContexts contexts t =
     record {
@@ -133,12 +135,13 @@ abbrev pub findReportable : Settings → Subscriptions → Option ℕ
 findReportable at t =
     position (isReportable (at .now .ms) (t .changedAttrs) (at .events) (at .kind) (at .all)) (t .subscriptions)
 
--- `vector.swap_remove(index)` of what was found: the one removed, and what is left
 module _ {A : Type 0} where
+  -- the one at a place, if there is one, and what is left
   abbrev pub removedAt : Option A → List A → Option (A × List A)
   removedAt none l = none
   removedAt (just x) l = just (x, l)
 
+  -- `vector.swap_remove(index)` of a place that was found: the one removed, and what is left
   abbrev pub swapRemoved : Option ℕ → List A → Option (A × List A)
   swapRemoved none l = none
   swapRemoved (just index) l = removedAt (getElem? l index) (swapRemove index l)
@@ -152,11 +155,12 @@ handedOut at t (just (s, others)) =
       withInner (t .subscriptionsCount) others (just s) (t .reportingCancelled) t,
     )
 
+-- the first that is reportable
 unfoldable pub report : Settings → Subscriptions → Option (ReportContext × Subscriptions)
 report at t = handedOut at t (swapRemoved (findReportable at t) (t .subscriptions))
 
--- ---- `SubscriptionsInner::report_complete`, after the values of the context were put into the subscription. Its push is unwrapped: there is
--- room while the count is right.
+-- ---- `SubscriptionsInner::report_complete`, after the values of the context were put into the subscription. Its push is unwrapped: there
+-- is room while the count is right.
 
 -- `self.reporting.as_ref().is_some_and(|reporting| reporting.ids.id == sub.ids.id)`
 abbrev pub ownsSlot : ℕ → Option Subscription → Bool
@@ -172,6 +176,7 @@ putBack cancelled keep s reporting reportingCancelled t =
     (withInner (t .subscriptionsCount) (t .subscriptions ++ (s ∷ [])) reporting reportingCancelled t)
     (withInner (wrappingSub 64 (t .subscriptionsCount) 1) (t .subscriptions) reporting reportingCancelled t))
 
+-- only the report that owns the slot empties it and takes its cancellation
 unfoldable pub reportComplete : ReportContext → Subscriptions → Subscriptions
 reportComplete c t =
     cond (ownsSlot (c .subscription .id) (t .reporting))
@@ -218,6 +223,7 @@ remove f reason t =
 
 -- ---- `SubscriptionsInner::clear`, whose reason "subscriptions cleared" has the number 255; the requests go with the subscriptions
 
+-- the report in flight stays counted until it completes
 unfoldable pub clear : Subscriptions → Subscriptions
 clear t =
     cond (isSome (t .reporting))
@@ -226,10 +232,12 @@ clear t =
 
 -- ---- `SubscriptionsInner::purge_reported_changes`
 
+-- up to the least that every subscription has seen, or all where there is none
 abbrev pub purgedBy : Option ℕ → ChangedAttrs → ChangedAttrs
 purgedBy none g = clearLog g
 purgedBy (just least) g = purgeUpTo least g
 
+-- not while more are counted than are in the vector
 unfoldable pub purgeReportedChanges : Subscriptions → Subscriptions
 purgeReportedChanges t =
     cond (ltb (length (t .subscriptions)) (t .subscriptionsCount)) t
