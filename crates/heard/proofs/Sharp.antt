@@ -116,3 +116,9 @@ pub not-allowed-yet : (play (at 1999) (bare 0 0 ∷ []) (noted 2 before 3 6 0) .
     × (play (at 1999) (bare 0 0 ∷ []) (noted 2 before 3 6 0) .silent ≡ true)
 unfolding allRules play
 not-allowed-yet = (refl, refl)
+
+-- nor is anybody whom no unheard note concerns
+pub nothing-owed : (play (at 2000) (bare 0 0 ∷ []) (stored 1 60) .out ≡ [])
+    × (play (at 2000) (bare 0 0 ∷ []) (stored 1 60) .silent ≡ true)
+unfolding allRules play
+nothing-owed = (refl, refl)
