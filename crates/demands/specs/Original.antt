@@ -29,3 +29,10 @@ CodeSameAsOriginal capacity ops =
 -- "On every history", "a capacity from 1 to 80"
 abbrev pub CodeDemand2 : Type 0
 CodeDemand2 = (capacity : ℕ) → capacityFits capacity ≡ true → (ops : List Op) → CodeInDomain capacity ops → CodeSameAsOriginal capacity ops
+
+-- the code keeps nothing that the Rust does not: from fresh tables, what is the same in the Rust's table is the same in the code's
+abbrev pub OriginalTellsTable : Type 0
+OriginalTellsTable =
+    (c d : ℕ) → capacityFits c ≡ true → capacityFits d ≡ true → (ops others : List Op)
+    → originalOf (view (tableAfter ops (freshTable c))) ≡ originalOf (view (tableAfter others (freshTable d)))
+    → tableAfter ops (freshTable c) ≡ tableAfter others (freshTable d)

@@ -13,10 +13,12 @@ pub mod SameCompletion
 pub mod SameClearing
 pub mod SameQuestions
 pub mod SameRounds
-pub mod Identities
+pub mod LogLasts
 pub mod SameHistories
 pub mod Computing
 pub mod Outside
 pub mod Inside
 pub mod WrongPrograms
 pub mod Examples
+pub mod StoredBlank
+pub mod Back

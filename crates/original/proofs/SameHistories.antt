@@ -29,7 +29,7 @@ use Rattle.original.specs.Calls.{reply, callOn, after, answered}
 use Rattle.original.specs.Likeness.{originalOf}
 use Rattle.original.specs.Demand.{strays, Demand2}
 use Rattle.original.proofs.Alike.{replyOf, Fit}
-use Rattle.original.proofs.Identities.{step-narrow}
+use Rattle.original.proofs.LogLasts.{Narrow, narrow-lasts, log-lasts}
 use Rattle.original.proofs.SameAdmission.{fresh-same, new-same, add-same, add-full, resume-same, resume-full, note-same}
 use Rattle.original.proofs.SameReports.{report-same}
 use Rattle.original.proofs.SameCompletion.{complete-same}
@@ -134,7 +134,7 @@ step-same op s fit early h = go (refusal op s) refl
 
 step-fit : (op : Op) (s : State) → Fit s → Fit (step op s .state)
 step-fit op s fit =
-    record { sound = step-sound op s (fit .sound); identities = step-narrow op s (fit .sound .log) (fit .identities) }
+    record { sound = step-sound op s (fit .sound); identities = log-lasts Narrow narrow-lasts op s (fit .sound .log) (fit .identities) }
 
 step-early : (op : Op) (s : State) → lives lateRetry s ≡ 0 → lives lateRetry (step op s .state) ≡ 0
 step-early op s early =

@@ -13,7 +13,7 @@ use Rattle.rules.specs.Numbers.{codeOf}
 use Rattle.rules.specs.Machine.{run, answers}
 use Rattle.original.specs.Table.{newTable}
 use Rattle.original.specs.Calls.{after, answered}
-use Rattle.original.specs.Likeness.{originalOf}
+use Rattle.original.specs.Likeness.{originalOf, stateOf}
 
 -- the call was refused by another number than 1
 abbrev pub strays : Answer → Bool
@@ -32,3 +32,9 @@ SameAsOriginal capacity ops =
 -- "On every history", "a capacity from 1 to 80"
 abbrev pub Demand2 : Type 0
 Demand2 = (capacity : ℕ) → capacityFits capacity ≡ true → (ops : List Op) → InDomain capacity ops → SameAsOriginal capacity ops
+
+-- the map between the states leaves nothing out, on every history from a fresh table
+abbrev pub NothingLeftOut : Type 0
+NothingLeftOut =
+    (capacity : ℕ) → capacityFits capacity ≡ true → (ops : List Op)
+    → stateOf (originalOf (run ops (fresh capacity))) ≡ run ops (fresh capacity)

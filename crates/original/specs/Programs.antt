@@ -10,6 +10,7 @@ use Rattle.rules.specs.States.{State, capacityFits}
 use Rattle.rules.specs.Calls as call
 use Rattle.rules.specs.Calls.{Op, Answer}
 use Rattle.rules.specs.Machine.{step}
+use Rattle.rules.specs.Rounds.{isRound}
 use Rattle.original.specs.Table.{newTable}
 use Rattle.original.specs.Calls.{answered}
 use Rattle.original.specs.Demand.{InDomain}
@@ -69,26 +70,6 @@ madeUpCount n op s = (recount n (step op s .answer), step op s .state)
 -- "doing nothing": every answer is right for a table that nothing was done to
 abbrev pub doesNothing : Program State
 doesNothing op s = (step op s .answer, s)
-
--- is the call a round
-abbrev pub isRound : Op → Bool
-isRound (call.new capacity) = false
-isRound (call.add request events now) = false
-isRound (call.resume id request events) = false
-isRound (call.note endpoint cluster attr) = false
-isRound (call.report at) = false
-isRound (call.complete id outcome) = false
-isRound (call.remove choice reason) = false
-isRound call.clear = false
-isRound call.purge = false
-isRound (call.attribute id endpoint cluster attr) = false
-isRound (call.sendIfEmpty id kind) = false
-isRound (call.nextInstant events kind) = false
-isRound (call.anyReportable now events kind) = false
-isRound call.nextKeepAlive = false
-isRound (call.statistics fabric) = false
-isRound (call.hasSubscription fabric peer) = false
-isRound (call.round at outcomes ids) = true
 
 -- "working in the first round only": after the first round, rounds hand out nobody; the flag says that there was one
 abbrev pub firstRoundOnly : Program (State × Bool)
