@@ -3,8 +3,8 @@
 use super::texts::behind;
 use super::texts::put_numbers;
 use super::texts::put_word;
-use changes::ChangedAttrs;
 use entries::ChangedAttr;
+use notes::Held;
 use printing::put_field;
 use subscription::Subscription;
 use table::Table;
@@ -20,8 +20,9 @@ struct Near {
 
 // Puts the state and a CRLF into `out` at `at`, and answers the place after them.
 pub fn put_state(out: &mut [u8], at: usize, t: Table) -> usize {
+    let log = t.log;
     let a = put_counts(out, at, t);
-    let b = put_log(out, a, t.log);
+    let b = put_log(out, a, log.held);
     let c = put_stored(out, b, t);
     let d = put_report(out, c, t);
     let e = put_primings(out, d, t);
@@ -45,8 +46,8 @@ fn put_named(out: &mut [u8], at: usize, name: &[u8], n: u64) -> usize {
 }
 
 // The entries, in their order.
-fn put_log(out: &mut [u8], at: usize, log: ChangedAttrs) -> usize {
-    let len = log.len;
+fn put_log(out: &mut [u8], at: usize, held: Held) -> usize {
+    let len = held.len;
     let mut k = put_word(out, at, b"log=");
     if len == 0 {
         return put_word(out, k, b" ");
@@ -56,7 +57,7 @@ fn put_log(out: &mut [u8], at: usize, log: ChangedAttrs) -> usize {
         if len <= i {
             return k;
         }
-        let x = log.entries[i];
+        let x = held.entries[i];
         i += 1;
         k = put_entry(out, k, x, behind(i, len, b';', b' '));
     }

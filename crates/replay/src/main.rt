@@ -25,10 +25,8 @@ use replies::Answered;
 use replies::bad;
 use table::Table;
 
+// The capacity of the table at the start.
 const CAPACITY: u8 = 80;
-
-// Reading has no limit but the number of a line, which has 64 bits; every turn of it reads once.
-const MOST: u64 = 0xffff_ffff_ffff_ffff;
 
 // What goes on from line to line: the table, the line that is being read, how many bytes of the output buffer are filled, and whether
 // there is more to read.
@@ -39,6 +37,7 @@ struct State {
     on: bool,
 }
 
+// Turn by turn to the end. A count falls at each turn, so that it ends whatever is read.
 fn main() {
     let mut held = io::buffer();
     let mut out = io::large_buffer();
@@ -46,11 +45,11 @@ fn main() {
     let table = new.table;
     let mut state = State {
         table: table,
-        reading: start(MOST),
+        reading: start(u64::MAX),
         filled: 0,
         on: true,
     };
-    let mut turns = MOST;
+    let mut turns = u64::MAX;
     while 0 < turns {
         let next = turn(state, &mut held, &mut out);
         state = next;

@@ -23,9 +23,15 @@ struct ChangedAttr {
 
 #[repr(C)]
 #[derive(Clone, Copy, Debug, PartialEq, Eq)]
-struct ChangedAttrs {
+struct Held {
     entries: [ChangedAttr; PLACES],
     len: usize,
+}
+
+#[repr(C)]
+#[derive(Clone, Copy, Debug, PartialEq, Eq)]
+struct ChangedAttrs {
+    held: Held,
     next: u64,
 }
 
@@ -95,15 +101,18 @@ fn placed(log: &Log) -> ChangedAttrs {
             endpoint: entry.path.endpoint,
         };
     }
-    ChangedAttrs {
+    let held = Held {
         entries,
         len: log.entries.len(),
+    };
+    ChangedAttrs {
+        held,
         next: log.next,
     }
 }
 
 fn listed(log: &ChangedAttrs) -> Log {
-    let entries = log.entries[..log.len].iter().map(|place| Entry {
+    let entries = log.held.entries[..log.held.len].iter().map(|place| Entry {
         path: Path {
             endpoint: place.endpoint,
             cluster: place.cluster,
@@ -125,11 +134,11 @@ fn refuses(len: usize, next: u64) {
         attr: 7,
         endpoint: 8,
     };
-    let given = ChangedAttrs {
+    let held = Held {
         entries: [entry; PLACES],
         len,
-        next,
     };
+    let given = ChangedAttrs { held, next };
     let mut log = given;
     let path = Path {
         endpoint: 1,

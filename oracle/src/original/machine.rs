@@ -128,6 +128,25 @@ impl Engine for Original {
     }
 }
 
+/// The original with nobody asked before it, as a device runs it: for histories in
+/// which nothing is refused but a full table.
+#[derive(Default)]
+pub struct Bare(Original);
+
+impl Engine for Bare {
+    fn call(&mut self, call: &Call) -> Answer {
+        if let Call::New { capacity } = call {
+            self.0.begin(*capacity);
+            return Ok(vec![u64::from(*capacity)]);
+        }
+        self.0.machine_mut().act_and_check(call, true)
+    }
+
+    fn state(&self) -> Table {
+        self.0.state()
+    }
+}
+
 macro_rules! machine_by_capacity {
     ($capacity:expr; $($n:literal)*) => {
         match $capacity {
