@@ -26,12 +26,12 @@ fn main() {
     let port = arguments
         .text("--trace-port")
         .unwrap_or_else(|| arguments.fail());
-    let lines: usize = arguments.number("--lines", 200_000);
+    let lines: usize = arguments.number("--lines", 40_000);
     let bench = Bench {
         port: port.into(),
         rust: beside_this("trace"),
         input: beside_this("bench.input"),
-        runs: arguments.number("--runs", 5),
+        runs: arguments.number("--runs", 40),
     };
     bench.lines_a_second(lines);
     bench.calls(lines);
@@ -50,14 +50,20 @@ struct Bench {
     runs: u32,
 }
 
+/// The least processor time of each on one input.
+struct Times {
+    port: f64,
+    rust: f64,
+}
+
 impl Bench {
     fn lines_a_second(&self, lines: usize) {
         println!("lines a second, histories of the domain");
         let input = Histories::new(1).batch(Language::Trace, Kind::Domain, lines);
         let count = input.iter().filter(|byte| **byte == b'\n').count() as f64;
-        let (port, rust) = self.seconds(&input);
-        println!("  port {:.0}, Rust {:.0}", count / port, count / rust);
-        println!("  the port takes {:.1} times as long", port / rust);
+        let times = &self.times(&[&input])[0];
+        let (port, rust) = (count / times.port, count / times.rust);
+        println!("  port {port:.0}, Rust {rust:.0}, ratio {:.1}", rust / port);
     }
 
     /// A call with its line, less a line that does nothing.
@@ -65,32 +71,37 @@ impl Bench {
         println!("microseconds of a call, with its line read and answered");
         println!("  stored  call                     port    Rust   ratio");
         for stored in STORED {
-            let mut bad = begun(stored).1;
-            bad.extend(BAD_LINE.repeat(lines));
-            let nothing = self.seconds(&bad);
-            for Repeated { name, calls, input } in inputs(stored, lines) {
-                let with = self.seconds(&input);
-                let port = (with.0 - nothing.0) * 1e6 / calls as f64;
-                let rust = (with.1 - nothing.1) * 1e6 / calls as f64;
-                println!(
-                    "  {stored:6}  {name:20} {port:8.2} {rust:7.2} {:7.1}",
-                    port / rust
-                );
+            let nothing = [begun(stored).1, BAD_LINE.repeat(lines)].concat();
+            let repeated = inputs(stored, lines);
+            let mut all = vec![&nothing[..]];
+            all.extend(repeated.iter().map(|repeated| &repeated.input[..]));
+            let times = self.times(&all);
+            for (Repeated { name, calls, .. }, with) in repeated.iter().zip(&times[1..]) {
+                let each = 1e6 / *calls as f64;
+                let port = (with.port - times[0].port) * each;
+                let rust = (with.rust - times[0].rust) * each;
+                let ratio = port / rust;
+                println!("  {stored:6}  {name:20} {port:8.2} {rust:7.2} {ratio:7.1}");
             }
         }
     }
 
-    /// Processor time of the port and of the Rust on these lines.
-    fn seconds(&self, input: &[u8]) -> (f64, f64) {
-        write(&self.input, input).expect("the input is written");
-        let best = |command: &dyn Fn() -> Command| {
-            let times = (0..self.runs).map(|_| self.timed(command()));
-            times.fold(f64::INFINITY, f64::min)
+    /// Each input in turn, again and again, so that what else the machine does falls
+    /// on all of them.
+    fn times(&self, inputs: &[&[u8]]) -> Vec<Times> {
+        let most = || Times {
+            port: f64::INFINITY,
+            rust: f64::INFINITY,
         };
-        (
-            best(&|| Command::new(&self.port)),
-            best(&|| self.rust_command()),
-        )
+        let mut times: Vec<Times> = inputs.iter().map(|_| most()).collect();
+        for _ in 0..self.runs {
+            for (input, best) in inputs.iter().zip(&mut times) {
+                write(&self.input, input).expect("the input is written");
+                best.port = best.port.min(self.timed(Command::new(&self.port)));
+                best.rust = best.rust.min(self.timed(self.rust_command()));
+            }
+        }
+        times
     }
 
     fn rust_command(&self) -> Command {
