@@ -1,5 +1,5 @@
-// The whole state as text, every field of it, in one order for every state that is the same. Each part begins with its name and ends with
-// the byte before the next one: a space, or the line's CR.
+// The whole state as text, as ../shared/REPLAY.md lists it, in one order for every state that is the same. Each part begins with its name
+// and ends with the byte before the next one: a space, or the line's CR.
 use super::texts::behind;
 use super::texts::put_numbers;
 use super::texts::put_word;
