@@ -54,6 +54,18 @@ reportedIn t at = answered (reportIn t at .table) (handOutReply (reportIn t at .
 unfoldable pub doneIn : Table → ℕ → ℕ → Answered
 doneIn t id outcome = answered (completeIn t id outcome .table) (completionReply (completeIn t id outcome .answer))
 
+-- attr,id,endpoint,cluster,attribute
+abbrev pub askedIn : Table → ℕ → ℕ → ℕ → ℕ → Answered
+askedIn t id endpoint cluster attr = answered t (toldReply (attributeAt t id endpoint cluster attr))
+
+-- wake,events,icd
+abbrev pub wakingIn : Table → ℕ → Bool → Answered
+wakingIn t events icd = answered t (momentReply (nextAt t events (keepAliveOf icd)))
+
+-- "A line of any other shape is bad."
+abbrev pub unreadIn : Table → Answered
+unreadIn t = answered t (refusedWith BadLine)
+
 -- the seven kinds, and the bad line
 unfoldable pub answerIn : Table → Line → Answered
 answerIn t (New capacity) = renewedIn t capacity
@@ -61,6 +73,6 @@ answerIn t (Add now fabric peer min max events rx) = addedIn t (requestOf fabric
 answerIn t (Note endpoint cluster attribute) = notedIn t endpoint cluster attribute
 answerIn t (Report now events icd all) = reportedIn t (settingsOf now events icd all)
 answerIn t (Done id outcome) = doneIn t id outcome
-answerIn t (Attr id endpoint cluster attribute) = answered t (toldReply (attributeAt t id endpoint cluster attribute))
-answerIn t (Wake events icd) = answered t (momentReply (nextAt t events (keepAliveOf icd)))
-answerIn t Bad = answered t (refusedWith BadLine)
+answerIn t (Attr id endpoint cluster attribute) = askedIn t id endpoint cluster attribute
+answerIn t (Wake events icd) = wakingIn t events icd
+answerIn t Bad = unreadIn t

@@ -6,7 +6,7 @@
 ghost use mathlib.Core.Path.{_≡_};
 ghost use Rattle.lists.specs.Search.{one};
 ghost use Rattle.answering.specs.Replies.{told, refusedWith, admissionReply, hearingReply, handOutReply, completionReply, toldReply, momentReply};
-ghost use Rattle.answering.specs.Answers.{renewedIn, addedIn, notedIn, reportedIn, doneIn, answerIn};
+ghost use Rattle.answering.specs.Answers.{requestOf, settingsOf, renewedIn, addedIn, notedIn, reportedIn, doneIn, askedIn, wakingIn, unreadIn, answerIn};
 use answers::Change;
 use answers::Told;
 use lines::Line;
@@ -33,14 +33,12 @@ pub struct Answered {
     pub reply: Reply,
 }
 
-// The line's call of the table.
+// The line's call of the table. Each arm returns, so that no arm's table is copied where they meet.
 pub fn answer(table: Table, line: Line) -> Answered
     ensures { λ r. ⌜ r ≡ answerIn table line ⌝ }
 {
     match line {
-        Line::New(capacity) => {
-            return renewed(table, capacity);
-        }
+        Line::New(capacity) => return renewed(table, capacity),
         Line::Add {
             now,
             fabric,
@@ -49,65 +47,27 @@ pub fn answer(table: Table, line: Line) -> Answered
             max,
             events,
             rx,
-        } => {
-            let request = Request {
-                peer: peer,
-                shortest: min,
-                longest: max,
-                rx: rx,
-                fabric: fabric,
-            };
-            return added(table, request, events, now);
-        }
+        } => return added(table, now, fabric, peer, min, max, events, rx),
         Line::Note {
             endpoint,
             cluster,
             attribute,
-        } => {
-            return noted(table, endpoint, cluster, attribute);
-        }
+        } => return noted(table, endpoint, cluster, attribute),
         Line::Report {
             now,
             events,
             icd,
             all,
-        } => {
-            let at = Settings {
-                now: Instant::at(now),
-                events: events,
-                kind: KeepAlive::of(icd),
-                all: all,
-            };
-            return reported(table, at);
-        }
-        Line::Done { id, outcome } => {
-            return done(table, id, outcome);
-        }
+        } => return reported(table, now, events, icd, all),
+        Line::Done { id, outcome } => return done(table, id, outcome),
         Line::Attr {
             id,
             endpoint,
             cluster,
             attribute,
-        } => {
-            let told = table.should_report_attr(id, endpoint, cluster, attribute);
-            return Answered {
-                table: table,
-                reply: of_told(told),
-            };
-        }
-        Line::Wake { events, icd } => {
-            let moment = table.next_report_at(events, KeepAlive::of(icd));
-            return Answered {
-                table: table,
-                reply: of_moment(moment),
-            };
-        }
-        Line::Bad => {
-            return Answered {
-                table: table,
-                reply: refused(Refusal::BadLine),
-            };
-        }
+        } => return asked(table, id, endpoint, cluster, attribute),
+        Line::Wake { events, icd } => return waking(table, events, icd),
+        Line::Bad => return unread(table),
     }
 }
 
@@ -132,9 +92,25 @@ fn renewed(table: Table, capacity: u8) -> Answered
     }
 }
 
-fn added(table: Table, request: Request, events: u64, now: u64) -> Answered
-    ensures { λ r. ⌜ r ≡ addedIn table request events now ⌝ }
+fn added(
+    table: Table,
+    now: u64,
+    fabric: u8,
+    peer: u64,
+    min: u16,
+    max: u16,
+    events: u64,
+    rx: u16,
+) -> Answered
+    ensures { λ r. ⌜ r ≡ addedIn table (requestOf fabric peer min max rx) events now ⌝ }
 {
+    let request = Request {
+        peer: peer,
+        shortest: min,
+        longest: max,
+        rx: rx,
+        fabric: fabric,
+    };
     let admitted = table.add(request, events, Instant::at(now));
     let after = admitted.table;
     let admission = admitted.answer;
@@ -156,9 +132,15 @@ fn noted(table: Table, endpoint: u16, cluster: u32, attr: u32) -> Answered
     }
 }
 
-fn reported(table: Table, at: Settings) -> Answered
-    ensures { λ r. ⌜ r ≡ reportedIn table at ⌝ }
+fn reported(table: Table, now: u64, events: u64, icd: bool, all: bool) -> Answered
+    ensures { λ r. ⌜ r ≡ reportedIn table (settingsOf now events icd all) ⌝ }
 {
+    let at = Settings {
+        now: Instant::at(now),
+        events: events,
+        kind: KeepAlive::of(icd),
+        all: all,
+    };
     let reported = table.report(at);
     let after = reported.table;
     let hand = reported.answer;
@@ -177,6 +159,37 @@ fn done(table: Table, id: u32, outcome: u8) -> Answered
     Answered {
         table: after,
         reply: of_completion(completion),
+    }
+}
+
+// A question leaves the table as it is.
+fn asked(table: Table, id: u32, endpoint: u16, cluster: u32, attr: u32) -> Answered
+    ensures { λ r. ⌜ r ≡ askedIn table id endpoint cluster attr ⌝ }
+{
+    let told = table.should_report_attr(id, endpoint, cluster, attr);
+    Answered {
+        table: table,
+        reply: of_told(told),
+    }
+}
+
+fn waking(table: Table, events: u64, icd: bool) -> Answered
+    ensures { λ r. ⌜ r ≡ wakingIn table events icd ⌝ }
+{
+    let moment = table.next_report_at(events, KeepAlive::of(icd));
+    Answered {
+        table: table,
+        reply: of_moment(moment),
+    }
+}
+
+// A line that is none.
+fn unread(table: Table) -> Answered
+    ensures { λ r. ⌜ r ≡ unreadIn table ⌝ }
+{
+    Answered {
+        table: table,
+        reply: refused(Refusal::BadLine),
     }
 }
 

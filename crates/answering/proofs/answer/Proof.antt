@@ -1,10 +1,8 @@
--- `answer` meets its contract: in each arm the kind of the line is known, and its call answers what the definition says.
+-- `answer` meets its contract: in each arm the kind of the line is known, and its function answers what the definition says.
 -- Assumes nothing.
-use mathlib.Core.Path.{ap, _∙_}
+use mathlib.Core.Path.{_∙_}
 use borrow.Author.Needs.{needs}
-use Rattle.table.specs.Calls.{nextAt}
-use Rattle.answering.specs.Replies.{toldReply, momentReply}
-use Rattle.answering.specs.Answers.{answered, answerIn}
+use Rattle.answering.specs.Answers.{answerIn}
 use Rattle.answering.proofs.answer.Statement.{statement}
 use Rattle.answering.proofs.answer.Tie as tie
 
@@ -41,19 +39,12 @@ returns-3 c = c .noted .ensures ∙ rw (c .before .before .line3 .given .1, answ
 enum-known-line-4 : tie.Need-enum-known-line-4
 enum-known-line-4 c = search needs
 
-at-requires : tie.Need-at-requires
-at-requires c κs = search needs
-
-of-requires : tie.Need-of-requires
-of-requires c κs = search needs
-
 reported-requires : tie.Need-reported-requires
 reported-requires c κs = search needs
 
 returns-4 : tie.Need-returns-4
 unfolding answerIn
-returns-4 c =
-    c .reported .ensures ∙ rw (c .before .before .before .before .line4 .given .1, c .before .before .at .ensures, c .before .of .ensures, answerIn)
+returns-4 c = c .reported .ensures ∙ rw (c .before .before .line4 .given .1, answerIn)
 
 enum-known-line-5 : tie.Need-enum-known-line-5
 enum-known-line-5 c = search needs
@@ -68,43 +59,32 @@ returns-5 c = c .done .ensures ∙ rw (c .before .before .line5 .given .1, answe
 enum-known-line-6 : tie.Need-enum-known-line-6
 enum-known-line-6 c = search needs
 
-should-report-attr-requires : tie.Need-should-report-attr-requires
-should-report-attr-requires c κs = search needs
-
-of-told-requires : tie.Need-of-told-requires
-of-told-requires c κs = search needs
+asked-requires : tie.Need-asked-requires
+asked-requires c κs = search needs
 
 returns-6 : tie.Need-returns-6
 unfolding answerIn
-returns-6 c =
-    ap (answered _) (c .of-told .ensures ∙ ap toldReply (c .before .should-report-attr .ensures)) ∙ rw (c .before .before .before .line6 .given .1, answerIn)
+returns-6 c = c .asked .ensures ∙ rw (c .before .before .line6 .given .1, answerIn)
 
 enum-known-line-7 : tie.Need-enum-known-line-7
 enum-known-line-7 c = search needs
 
-of-requires-2 : tie.Need-of-requires-2
-of-requires-2 c κs = search needs
-
-next-report-at-requires : tie.Need-next-report-at-requires
-next-report-at-requires c κs = search needs
-
-of-moment-requires : tie.Need-of-moment-requires
-of-moment-requires c κs = search needs
+waking-requires : tie.Need-waking-requires
+waking-requires c κs = search needs
 
 returns-7 : tie.Need-returns-7
 unfolding answerIn
-returns-7 c =
-    ap (answered _) (c .of-moment .ensures ∙ ap momentReply (c .before .next-report-at .ensures ∙ ap (nextAt _ _) (c .before .before .of2 .ensures))) ∙ rw (c .before .before .before .before .line7 .given .1, answerIn)
+returns-7 c = c .waking .ensures ∙ rw (c .before .before .line7 .given .1, answerIn)
 
 enum-told : tie.Need-enum-told
 enum-told c = search needs
 
-refused-requires : tie.Need-refused-requires
-refused-requires c κs = search needs
+unread-requires : tie.Need-unread-requires
+unread-requires c κs = search needs
 
 returns-8 : tie.Need-returns-8
 unfolding answerIn
-returns-8 c = ap (answered _) (c .refused .ensures) ∙ rw (c .before .enum-told .given .1, answerIn)
+returns-8 c = c .unread .ensures ∙ rw (c .before .enum-told .given .1, answerIn)
 
 pub answer-spec : {M : Type 1} → statement M
 answer-spec =
@@ -120,22 +100,17 @@ answer-spec =
     noted-requires
     returns-3
     enum-known-line-4
-    at-requires
-    of-requires
     reported-requires
     returns-4
     enum-known-line-5
     done-requires
     returns-5
     enum-known-line-6
-    should-report-attr-requires
-    of-told-requires
+    asked-requires
     returns-6
     enum-known-line-7
-    of-requires-2
-    next-report-at-requires
-    of-moment-requires
+    waking-requires
     returns-7
     enum-told
-    refused-requires
+    unread-requires
     returns-8)

@@ -1,12 +1,29 @@
 -- `reported` meets its contract: the call's table and answer are passed on.
 -- Assumes nothing.
+use mathlib.Core.Bool.{Bool}
+use mathlib.Core.Path.{ap, _∙_}
+use Prim.Native.Nat.{ℕ}
 use borrow.Author.Needs.{needs}
-use Rattle.table.specs.declared.Reported.{Reported}
 use Rattle.answering.specs.Answers.{reportedIn}
 use Rattle.answering.specs.Replies.{handOutReply}
+use Rattle.subscription.specs.declared.Settings.{Settings}
+use Rattle.table.specs.Calls.{reportIn}
+use Rattle.table.specs.declared.Reported.{Reported}
+use Rattle.time.specs.Instants.{instant}
+use Rattle.time.specs.declared.Instant.{Instant}
+use Rattle.time.specs.declared.KeepAlive.{KeepAlive}
 use Rattle.answering.proofs.Passing.{passed-on}
 use Rattle.answering.proofs.reported.Statement.{statement}
 use Rattle.answering.proofs.reported.Tie as tie
+
+abbrev asking : Instant → ℕ → KeepAlive → Bool → Settings
+asking now events kind all = record { now = now; events = events; kind = kind; all = all }
+
+at-requires : tie.Need-at-requires
+at-requires c κs = search needs
+
+of-requires : tie.Need-of-requires
+of-requires c κs = search needs
 
 report-requires : tie.Need-report-requires
 report-requires c κs = search needs
@@ -17,7 +34,14 @@ of-hand-out-requires c κs = search needs
 returns : tie.Need-returns
 unfolding reportedIn
 returns c =
-    passed-on (λ (r : Reported). r .table) (λ r. handOutReply (r .answer)) _ _ _ (c .before .before .report .ensures) (c .of-hand-out .ensures)
+    let d = c .before .before .before in
+    let a = d .before .before .args in
+    passed-on (λ (r : Reported). r .table) (λ r. handOutReply (r .answer)) _ _ _
+    (c .before .before .report .ensures
+    ∙ ap (λ (now : Instant). reportIn (a .table) (asking now (a .events) (d .of .result) (a .all))) (d .before .at .ensures)
+    ∙ ap (λ (kind : KeepAlive). reportIn (a .table) (asking (instant (a .now)) (a .events) kind (a .all))) (d .of .ensures))
+    (c .of-hand-out .ensures)
 
 pub reported-spec : {M : Type 1} → statement M
-reported-spec = tie.close (tie.spec report-requires of-hand-out-requires returns)
+reported-spec =
+    tie.close (tie.spec at-requires of-requires report-requires of-hand-out-requires returns)
