@@ -45,7 +45,7 @@ const REPORT: [u64; 4] = [BITS64, BITS64, FLAG, FLAG];
 const DONE: [u64; 2] = [BITS32, BITS8];
 
 // The line `s` at the table `t`, if it is one of these.
-pub fn answer(t: Table, s: &[u8]) -> Answered {
+pub(crate) fn answer(t: Table, s: &[u8]) -> Answered {
     if starts(s, b"new,") {
         return new(t, read_fields(s, 4, &NEW));
     }
@@ -174,7 +174,7 @@ fn report(t: Table, n: Numbers) -> Answered {
 }
 
 // The settings at the front of the fields.
-pub fn settings(v: [u64; PLACES]) -> Settings {
+pub(crate) fn settings(v: [u64; PLACES]) -> Settings {
     Settings {
         now: Instant::at(v[0]),
         events: v[1],
@@ -225,7 +225,7 @@ fn purge(t: Table) -> Answered {
 }
 
 // Nothing to tell.
-pub fn changed(answer: Change) -> Reply {
+pub(crate) fn changed(answer: Change) -> Reply {
     match answer {
         Change::Done => none(),
         Change::Refused(why) => refused(why),

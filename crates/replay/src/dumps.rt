@@ -19,7 +19,7 @@ struct Near {
 }
 
 // Puts the state and a CRLF into `out` at `at`, and answers the place after them.
-pub fn put_state(out: &mut [u8], at: usize, t: Table) -> usize {
+pub(crate) fn put_state(out: &mut [u8], at: usize, t: Table) -> usize {
     let log = t.log;
     let a = put_counts(out, at, t);
     let b = put_log(out, a, log.held);

@@ -15,7 +15,7 @@ use table::Table;
 const IDENTITY: [u64; 1] = [BITS64];
 
 // The line `s` at the table `t`, if it is one of these. Every other line leaves the table as it is.
-pub fn answer(t: Table, s: &[u8]) -> Answered {
+pub(crate) fn answer(t: Table, s: &[u8]) -> Answered {
     if starts(s, b"setidentity,") {
         return set_identity(t, read_fields(s, 12, &IDENTITY));
     }

@@ -45,7 +45,7 @@ const CHANGED: [u64; 4] = [BITS16, BITS32, BITS32, BITS64];
 const SINCE: [u64; 1] = [BITS64];
 
 // The line `s` at the table `t`, if it is one of these.
-pub fn reply(t: Table, s: &[u8]) -> Reply {
+pub(crate) fn reply(t: Table, s: &[u8]) -> Reply {
     if starts(s, b"attr,") {
         return attribute(t, read_fields(s, 5, &ATTR));
     }

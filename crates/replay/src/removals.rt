@@ -30,7 +30,7 @@ const ID: [u64; 2] = [BITS32, BITS8];
 const EXPIRED: [u64; 2] = [BITS64, BITS8];
 
 // The line `s` at the table `t`, if it is one of these. The reason is the last field.
-pub fn answer(t: Table, s: &[u8]) -> Answered {
+pub(crate) fn answer(t: Table, s: &[u8]) -> Answered {
     if starts(s, b"remove,all,") {
         let n = read_fields(s, 11, &ALL);
         let v = n.at;

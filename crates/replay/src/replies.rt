@@ -1,5 +1,7 @@
 // What a line is answered with: document 01's number, 0 where the call acted, and the values that it tells. What a line asks is not known
 // here.
+ghost use mathlib.Core.Path.{_≡_};
+ghost use Rattle.lists.specs.Search.{one as oneIf};
 use super::texts::behind;
 use super::texts::put_numbers;
 use printing::put_field;
@@ -7,29 +9,29 @@ use refusal::Refusal;
 use table::Table;
 
 // A round tells two values and every id of its slice, of which there are at most 255; no other line tells more than six.
-pub const VALUES: usize = 257;
+pub(crate) const VALUES: usize = 257;
 
 // The number, and the first `count` values.
-pub struct Reply {
-    pub values: [u64; VALUES],
-    pub count: usize,
-    pub code: u8,
+pub(crate) struct Reply {
+    pub(crate) values: [u64; VALUES],
+    pub(crate) count: usize,
+    pub(crate) code: u8,
 }
 
 // A reply, and the table after it.
-pub struct Answered {
-    pub reply: Reply,
-    pub table: Table,
+pub(crate) struct Answered {
+    pub(crate) reply: Reply,
+    pub(crate) table: Table,
 }
 
-pub fn bad(table: Table) -> Answered {
+pub(crate) fn bad(table: Table) -> Answered {
     Answered {
         reply: refused(Refusal::BadLine),
         table: table,
     }
 }
 
-pub fn refused(why: Refusal) -> Reply {
+pub(crate) fn refused(why: Refusal) -> Reply {
     Reply {
         values: [0; VALUES],
         count: 0,
@@ -37,20 +39,20 @@ pub fn refused(why: Refusal) -> Reply {
     }
 }
 
-pub fn none() -> Reply {
+pub(crate) fn none() -> Reply {
     acted([0; VALUES], 0)
 }
 
-pub fn one(a: u64) -> Reply {
+pub(crate) fn one(a: u64) -> Reply {
     three(a, 0, 0, 1)
 }
 
-pub fn two(a: u64, b: u64) -> Reply {
+pub(crate) fn two(a: u64, b: u64) -> Reply {
     three(a, b, 0, 2)
 }
 
 // The first `count` of the three.
-pub fn three(a: u64, b: u64, c: u64, count: usize) -> Reply {
+pub(crate) fn three(a: u64, b: u64, c: u64, count: usize) -> Reply {
     let mut values = [0u64; VALUES];
     values[0] = a;
     values[1] = b;
@@ -58,7 +60,7 @@ pub fn three(a: u64, b: u64, c: u64, count: usize) -> Reply {
     acted(values, count)
 }
 
-pub fn acted(values: [u64; VALUES], count: usize) -> Reply {
+pub(crate) fn acted(values: [u64; VALUES], count: usize) -> Reply {
     Reply {
         values: values,
         count: count,
@@ -66,12 +68,15 @@ pub fn acted(values: [u64; VALUES], count: usize) -> Reply {
     }
 }
 
-pub fn flag(yes: bool) -> u64 {
+// 1 for yes, 0 for no.
+pub(crate) fn flag(yes: bool) -> u64
+    ensures { λ r. ⌜ r ≡ oneIf yes ⌝ }
+{
     if yes { 1 } else { 0 }
 }
 
 // Puts line number, code and values into `out` at `at`, a space behind them, and answers the place after it.
-pub fn put_reply(out: &mut [u8], at: usize, number: u64, reply: Reply) -> usize {
+pub(crate) fn put_reply(out: &mut [u8], at: usize, number: u64, reply: Reply) -> usize {
     let values = reply.values;
     let count = reply.count;
     let a = put_field(out, at, number, b',');

@@ -42,7 +42,7 @@ struct Outcomes {
 }
 
 // The line `s` at the table `t`, if it is a round.
-pub fn answer(t: Table, s: &[u8]) -> Answered {
+pub(crate) fn answer(t: Table, s: &[u8]) -> Answered {
     if starts(s, b"round,") {
         return round_line(t, s);
     }

@@ -37,7 +37,7 @@ const SINGLE: [u64; 11] = [
 ];
 
 // The line `s` with the log, if it is this one.
-pub fn reply(log: ChangedAttrs, s: &[u8]) -> Reply {
+pub(crate) fn reply(log: ChangedAttrs, s: &[u8]) -> Reply {
     if starts(s, b"single,") {
         return single(log, read_fields(s, 7, &SINGLE));
     }

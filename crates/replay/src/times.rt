@@ -29,7 +29,7 @@ const SUB_MAX: [u64; 4] = [BITS16, BITS16, BITS16, BITS16];
 const EXPIRED: [u64; 3] = [BITS64, BITS16, BITS64];
 
 // The line `s`, if it is one of these.
-pub fn reply(s: &[u8]) -> Reply {
+pub(crate) fn reply(s: &[u8]) -> Reply {
     if starts(s, b"backoff,") {
         return backoff(read_fields(s, 8, &BACKOFF));
     }
