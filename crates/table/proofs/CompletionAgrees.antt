@@ -120,7 +120,7 @@ module _ (t : Table) (long : length (t .places) ≡ 80) (h : kept t ≡ true) wh
     ended-view : (x : Subscription) (o r : ℕ) → view (withReason (tableAfter t (openAt t id) x o) r)
         ≡ withCancel (withOnes (view t) (storedAfter x o (view t)) (takeOutNewest (hasId id) (opensOf t))) r
     ended-view x o r =
-        split (staysAfter t x o)
+        split (staysAfter (t .cancel) x o)
         (λ u. rw u (kept-view (closed x o) r))
         (λ u. rw u (dropped-view r))
 
@@ -131,7 +131,7 @@ module _ (t : Table) (long : length (t .places) ≡ 80) (h : kept t ≡ true) wh
     unfolding endedAt
     ended-same o =
         let x = getD (t .places) (openAt t id) blank in
-        ap (λ s. outcome (call.completed (staysAfter t x o) (failed x o)) s) (ended-view x o (cond (x .reporting) 0 (t .cancel)))
+        ap (λ s. outcome (call.completed (staysAfter (t .cancel) x o) (failed x o)) s) (ended-view x o (cond (x .reporting) 0 (t .cancel)))
         ∙ ap (λ z. outcome (call.completed (stays z o (view t)) (failed z o))
         (withCancel (withOnes (view t) (storedAfter z o (view t)) (takeOutNewest (hasId id) (opensOf t))) (cond (z .reporting) 0 (t .cancel))))
         (same-open id)

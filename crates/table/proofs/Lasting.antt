@@ -93,7 +93,7 @@ module _ {P : Table → Type 0} (lasting : Lasting P) (t : Table) (h : P t) wher
       let found = open-found t (lasting .wholly t h .long) k id o e in
       let rest = lasting .closed t h j (at-least t (lasting .wholly t h .long) k id found) (at-most t (lasting .wholly t h .long) k id found) in
       let room = closed-room t (lasting .wholly t h .long) k id found in
-      split (staysAfter t x o)
+      split (staysAfter (t .cancel) x o)
       (λ u. lasting .again (tableAfter t j x o) _ refl refl refl (rw u (lasting .stored (closedAt t j) rest (closed x o) room)))
       (λ u. lasting .again (tableAfter t j x o) _ refl refl refl (rw u rest)))
 

@@ -1,8 +1,8 @@
 -- One turn of the pass over the live ones, and what the well-kept test asks in the array's terms.
 -- Assumes nothing.
 use mathlib.Core.Path.{_≡_, refl, sym, ap, _∙_}
-use mathlib.Core.Bool.{Bool, false, _||_, or-assoc, or-false}
-use mathlib.Core.List.{List, [], _∷_, _++_, map}
+use mathlib.Core.Bool.{Bool, false, _&&_, _||_, or-assoc, or-false}
+use mathlib.Core.List.{List, [], _∷_, _++_, map, map-append}
 use Prim.Native.Nat.{ℕ, suc, _+_, _-_, _≤_, _<_}
 use native.Mathlib.Omega.{arith}
 use native.Mathlib.Numerals.{add-one}
@@ -13,12 +13,15 @@ use lib.Seq.{length-take-le, take-suc, take-suc-set, drop-cons, getD-take, getD-
 use Rattle.subscription.specs.declared.Subscription.{Subscription}
 use Rattle.table.specs.declared.Lives.{Lives}
 use Rattle.table.specs.declared.Table.{Table}
-use Rattle.lists.specs.Search.{first, some, distinct, leastBy}
+use Rattle.lists.specs.Search.{one, first, some, count, distinct, leastBy}
 use Rattle.subscription.specs.Life.{blank}
-use Rattle.rules.specs.States.{fabricZero}
+use Rattle.rules.specs.States.{isReport, fabricZero}
 use Rattle.table.specs.Views.{storedOf, opensOf, placeOf, Lived}
 use Rattle.lists.proofs.Bools.{split}
 use Rattle.lists.proofs.Searches.{first-some}
+use Rattle.lists.proofs.Orders.{count-cons}
+use Rattle.lists.proofs.Maps.{some-map}
+use Rattle.lists.proofs.Parts.{drop-next}
 
 -- a bound is never below the least
 pub least-bound : {A : Type 0} (f : A → ℕ) (m : ℕ) (l : List A) → leastBy f m l ≤ m
@@ -26,20 +29,11 @@ unfolding leastBy
 least-bound f m [] = omega arith
 least-bound f m (x ∷ xs) = omega (arith, least-bound f m xs)
 
-some-map : {A : Type 0} (f : A → ℕ) (k : ℕ) (l : List A) → some (λ y. eqb k y) (map f l) ≡ some (λ y. eqb k (f y)) l
-unfolding some
-some-map f k [] = refl
-some-map f k (x ∷ xs) = ap (λ b. eqb k (f x) || b) (some-map f k xs)
-
 -- numbers taken off the elements first, or on the way
 pub distinct-map : {A : Type 0} (f : A → ℕ) (l : List A) → distinct (λ n. n) (map f l) ≡ distinct f l
 unfolding distinct
 distinct-map f [] = refl
-distinct-map f (x ∷ xs) = rw (some-map f (f x) xs, distinct-map f xs)
-
-map-append : {A B : Type 0} (f : A → B) (l m : List A) → map f (l ++ m) ≡ map f l ++ map f m
-map-append f [] m = refl
-map-append f (x ∷ xs) m = ap (λ l. f x ∷ l) (map-append f xs m)
+distinct-map f (x ∷ xs) = rw (some-map f (λ n. eqb (f x) n) xs, distinct-map f xs)
 
 module _ (places : List Subscription) (s o : ℕ) (long : length places ≡ 80) (fits : s + o ≤ 80) where
   abbrev live : List Subscription
@@ -77,38 +71,67 @@ sum-within s o m h =
     (λ t. t ∙ sym (le-leb (s + o) m (let w = leb-true o (m - s) t in omega arith)))
     (λ t. t ∙ sym (lt-leb (s + o) m (let w = leb-false o (m - s) t in omega arith)))
 
--- the pass over the live ones at i: the ids so far are theirs, and one without a fabric was met or is still to come
-pub record Passing (live : List Subscription) (ids : List ℕ) (orphan : Bool) (i : ℕ) : Type 0 where
+-- the pass over the live ones at i: the ids so far are theirs, and what has no fabric or is an open report was met or is still to come
+pub record Passing (stored opens : List Subscription) (ids : List ℕ) (orphan : Bool) (reports i : ℕ) : Type 0 where
   pub long : length ids ≡ 80
-  pub ids-are : take i ids ≡ map (λ x. x .id) (take i live)
-  pub orphan-is : some fabricZero live ≡ (orphan || some fabricZero (drop i live))
+  pub ids-are : take i ids ≡ map (λ x. x .id) (take i (stored ++ opens))
+  pub orphan-is : some fabricZero (stored ++ opens) ≡ (orphan || some fabricZero (drop i (stored ++ opens)))
+  pub reports-are : count isReport opens ≡ reports + count isReport (drop (i - length stored) opens)
 
-module _ (live : List Subscription) where
-  pub pass-begin : (ids : List ℕ) → length ids ≡ 80 → Passing live ids false 0
-  pass-begin ids long = record { long = long; ids-are = refl; orphan-is = refl }
+module _ (stored opens : List Subscription) where
+  abbrev both : List Subscription
+  both = stored ++ opens
 
-  pub pass-step : {ids : List ℕ} {orphan more : Bool} {i : ℕ} (x : Subscription) → Passing live ids orphan i → i < length live → i < 80
-      → getD live i blank ≡ x → more ≡ (orphan || fabricZero x) → Passing live (set ids i (x .id)) more (i + 1)
+  pub pass-begin : (ids : List ℕ) → length ids ≡ 80 → Passing stored opens ids false 0 0
+  pass-begin ids long =
+      let all : 0 - length stored ≡ 0 = omega arith in
+      record { long = long; ids-are = refl; orphan-is = refl; reports-are = rw all (omega arith) }
+
+  -- one more place: an open report counts, a stored one does not
+  reports-step : (reports i : ℕ) {more : ℕ} (x : Subscription) → count isReport opens ≡ reports + count isReport (drop (i - length stored) opens)
+      → i < length both → getD both i blank ≡ x → more ≡ reports + one (leb (length stored) i && x .reporting)
+      → count isReport opens ≡ more + count isReport (drop (i + 1 - length stored) opens)
+  reports-step reports i x p h e f =
+      let sizes = length-append stored opens in
+      split (leb (length stored) i)
+      (λ t. let past = leb-true (length stored) i t in
+      let at : i ≡ length stored + (i - length stored) = omega arith in
+      let here : getD opens (i - length stored) blank ≡ x =
+          sym (getD-append-add stored opens (i - length stored) blank) ∙ ap (λ k. getD both k blank) (sym at) ∙ e in
+      let next : i + 1 - length stored ≡ i - length stored + 1 = omega arith in
+      p
+      ∙ rw (drop-next opens (i - length stored) blank (omega arith), here, count-cons isReport x (drop (i - length stored + 1) opens), f, t, next)
+      (omega arith))
+      (λ t. let short = leb-false (length stored) i t in
+      let still : i + 1 - length stored ≡ i - length stored = omega arith in
+      p ∙ rw (f, t, still) (omega arith))
+
+  pub pass-step : {ids : List ℕ} {orphan lone : Bool} {reports more i : ℕ} (x : Subscription) → Passing stored opens ids orphan reports i
+      → i < length both → i < 80 → getD both i blank ≡ x → lone ≡ (orphan || fabricZero x)
+      → more ≡ reports + one (leb (length stored) i && x .reporting) → Passing stored opens (set ids i (x .id)) lone more (i + 1)
   unfolding some
-  pass-step {ids} {orphan} {more} {i} x p h k e f =
+  pass-step {ids} {orphan} {lone} {reports} {more} {i} x p h k e f g =
       let room : i < length ids = omega (arith, p .long) in
       record {
         long = length-set ids i (x .id) ∙ p .long;
         ids-are =
-            rw (add-one, take-suc-set ids i (x .id) room, take-suc live i blank h, e, p .ids-are)
-            (sym (map-append (λ x. x .id) (take i live) (x ∷ [])));
+            rw (add-one, take-suc-set ids i (x .id) room, take-suc both i blank h, e, p .ids-are)
+            (sym (map-append (λ x. x .id) (take i both) (x ∷ [])));
         orphan-is =
             p .orphan-is
-            ∙ rw (add-one, drop-cons live i blank h, e, f) (sym (or-assoc orphan (fabricZero x) (some fabricZero (drop (suc i) live))));
+            ∙ rw (add-one, drop-cons both i blank h, e, f) (sym (or-assoc orphan (fabricZero x) (some fabricZero (drop (suc i) both))));
+        reports-are = reports-step reports i x (p .reports-are) h e g;
       }
 
-  pub pass-end : {r : Lives} {i : ℕ} → Passing live (r .ids) (r .orphan) i → i ≡ length live → Lived live r
-  unfolding some
+  pub pass-end : {r : Lives} {i : ℕ} → Passing stored opens (r .ids) (r .orphan) (r .reports) i → i ≡ length both → Lived stored opens r
+  unfolding some count
   pass-end {r} p e =
+      let all : length both - length stored ≡ length opens = omega (arith, length-append stored opens) in
       record {
         long = p .long;
-        ids-are = (rw (e, take-all (length live) live (omega arith)) at (p .ids-are));
-        orphan-is = sym (p .orphan-is ∙ rw (e, drop-length live) (or-false (r .orphan)));
+        ids-are = (rw (e, take-all (length both) both (omega arith)) at (p .ids-are));
+        orphan-is = sym (p .orphan-is ∙ rw (e, drop-length both) (or-false (r .orphan)));
+        reports-are = sym (p .reports-are ∙ rw (e, all, drop-length opens) (omega arith));
       }
 
 -- the place that a scan of the open ones finds is one of the eighty exactly where there is one

@@ -182,19 +182,19 @@ unfoldable pub openAt : Table → ℕ → ℕ
 openAt t id = 80 - t .opens + first (hasId id) (opensOf t)
 
 -- "A cancelled report is dropped under each outcome."
-abbrev pub staysAfter : Table → Subscription → ℕ → Bool
-staysAfter t x o = not (x .reporting && not (eqb (t .cancel) 0)) && keeps x o
+abbrev pub staysAfter : ℕ → Subscription → ℕ → Bool
+staysAfter cancel x o = not (x .reporting && not (eqb cancel 0)) && keeps x o
 
 -- the table without the open one at a place; "Kept ones go to the end."
 abbrev pub tableAfter : Table → ℕ → Subscription → ℕ → Table
-tableAfter t j x o = cond (staysAfter t x o) (storedLast (closedAt t j) (closed x o)) (closedAt t j)
+tableAfter t j x o = cond (staysAfter (t .cancel) x o) (storedLast (closedAt t j) (closed x o)) (closedAt t j)
 
 -- the open one at a place ends: its report's reason goes with it
 unfoldable pub endedAt : Table → ℕ → ℕ → Completed
 endedAt t j o =
     let x : Subscription = getD (t .places) j blank in
     record {
-      answer = completion.Ended (record { kept = staysAfter t x o; failed = failed x o });
+      answer = completion.Ended (record { kept = staysAfter (t .cancel) x o; failed = failed x o });
       table = withReason (tableAfter t j x o) (cond (x .reporting) 0 (t .cancel));
     }
 

@@ -3,7 +3,7 @@
 -- Assumes nothing.
 use mathlib.Core.Path.{_≡_}
 use mathlib.Core.Bool.{Bool, cond, not, _&&_}
-use mathlib.Core.List.{List, _∷_, map}
+use mathlib.Core.List.{List, _∷_, _++_, map}
 use mathlib.Core.Option.{Option}
 use Prim.Native.Nat.{ℕ, _+_, _-_}
 use lib.Dec.{leb, ltb}
@@ -13,10 +13,10 @@ use Rattle.refusal.specs.declared.Refusal.the-variants.{NotWellKept}
 use Rattle.subscription.specs.declared.Subscription.{Subscription}
 use Rattle.table.specs.declared.Table.{Table}
 use Rattle.table.specs.declared.Lives.{Lives}
-use Rattle.lists.specs.Search.{some}
+use Rattle.lists.specs.Search.{some, count}
 use Rattle.changes.specs.Logs.{freshLog}
 use Rattle.subscription.specs.Life.{blank}
-use Rattle.rules.specs.States.{State, fabricZero, wellKept}
+use Rattle.rules.specs.States.{State, isReport, fabricZero, wellKept}
 use Rattle.rules.specs.Calls.{Op}
 use Rattle.rules.specs.Machine.{firstOf, objections}
 
@@ -33,10 +33,11 @@ abbrev pub placeOf : ℕ → ℕ → ℕ → ℕ
 placeOf i stored gap = cond (ltb i stored) i (i + gap)
 
 -- what one pass over the live ones finds
-pub record Lived (live : List Subscription) (r : Lives) : Type 0 where
+pub record Lived (stored opens : List Subscription) (r : Lives) : Type 0 where
   pub long : length (r .ids) ≡ 80
-  pub ids-are : take (length live) (r .ids) ≡ map (λ x. x .id) live
-  pub orphan-is : r .orphan ≡ some fabricZero live
+  pub ids-are : take (length (stored ++ opens)) (r .ids) ≡ map (λ x. x .id) (stored ++ opens)
+  pub orphan-is : r .orphan ≡ some fabricZero (stored ++ opens)
+  pub reports-are : r .reports ≡ count isReport opens
 
 -- the state that a table stands for
 abbrev pub view : Table → State

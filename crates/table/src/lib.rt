@@ -4,19 +4,19 @@
 // is said place by place in specs/.
 ghost use mathlib.Core.Path.{_≡_};
 ghost use mathlib.Core.Bool.{true, cond, not, _&&_, _||_};
-ghost use mathlib.Core.List.{_++_};
 ghost use Prim.Native.Nat.{_+_, _-_, _^_, _≤_, _<_, min};
 ghost use lib.Dec.{leb, ltb, eqb};
-ghost use Rattle.lists.specs.Search.{some, count, first, leastBy};
-ghost use Rattle.rules.specs.States.{capacityFits, isReport, hasId};
+ghost use lib.ListN.{getD};
+ghost use Rattle.lists.specs.Search.{one, some, count, first, leastBy};
+ghost use Rattle.rules.specs.States.{capacityFits, hasId};
 ghost use Rattle.rules.specs.Machine.{firstOf, nextIdAfter, badReason};
 ghost use Rattle.subscription.specs.Choices.{chosen};
-ghost use Rattle.subscription.specs.Life.{closed};
-ghost use Rattle.changes.specs.Logs.{kept as logKept};
+ghost use Rattle.subscription.specs.Life.{blank};
+ghost use Rattle.changes.specs.Logs.{kept as logKept, watermarkOf};
 ghost use Rattle.table.specs.Views.{freshTable, storedOf, opensOf, placeOf, Lived, kept};
 ghost use Rattle.table.specs.Tests.{ofFabric, served, struck, passes, measured};
-ghost use Rattle.table.specs.Moves.{withNextId, withReason, withLog, takenOut, storedLast, openedUp, closedAt, sweptOut, emptied};
-ghost use Rattle.table.specs.Calls.{newTable, admitObjections, asVerdict, notAdmitted, addTo, resumeIn, notCompleted, staysAfter, endedAt, completeIn, attributeAt, sendAt, notWoken, cancelsIn, removeIn, clearIn, purgedTable, purgeIn, noteIn, notReported, handOutIn, reportIn, anyAt, nextAt, aliveAt, loadOf, hasAt};
+ghost use Rattle.table.specs.Moves.{withNextId, withReason, withLog, storedLast, openedUp, sweptOut, emptied};
+ghost use Rattle.table.specs.Calls.{newTable, admitObjections, asVerdict, notAdmitted, addTo, resumeIn, notCompleted, staysAfter, endedAt, completeIn, attributeAt, sendAt, notWoken, cancelsIn, removeIn, clearIn, purgedTable, purgeIn, noteIn, notReported, handedOut, handOutIn, reportIn, anyAt, nextAt, aliveAt, loadOf, hasAt};
 use answers::Change;
 use answers::Told;
 use changes::ChangedAttrs;
@@ -296,7 +296,7 @@ impl Table {
         if 80 <= at {
             return Told::Refused(Refusal::NotOpen);
         }
-        let x = self.places[at];
+        let x = self.at(at);
         let reported = x.reported;
         if reported.is_never() {
             return Told::Is(true);
@@ -316,7 +316,7 @@ impl Table {
         if 80 <= at {
             return Told::Refused(Refusal::NotOpen);
         }
-        let x = self.places[at];
+        let x = self.at(at);
         let opened = x.opened;
         Told::Is(x.is_report_due(opened, kind))
     }
@@ -458,48 +458,34 @@ impl Table {
         if !distinct::all_differ(&ids[..n]) {
             return false;
         }
-        cancel_fits(self.count_open_reports(), self.cancel)
+        cancel_fits(lives.reports, self.cancel)
     }
 
-    // The ids of the live ones, and whether one has no fabric.
+    // The ids of the live ones, whether one has no fabric, and how many of the open ones are reports.
     fn lives(self) -> Lives
         requires { ⌜ self .stored + self .opens ≤ 80 ⌝ }
-        ensures { λ r. ⌜ Lived (storedOf self ++ opensOf self) r ⌝ }
+        ensures { λ r. ⌜ Lived (storedOf self) (opensOf self) r ⌝ }
     {
         let stored = self.stored;
         let n = stored + self.opens;
         let gap = PLACES - n;
         let mut ids = [0u32; 80];
         let mut orphan = false;
+        let mut reports: usize = 0;
         let mut i: usize = 0;
         while i < n {
             let at = place_of(i, stored, gap);
             let x = self.places[at];
             ids[i] = x.id;
-            i += 1;
             orphan = either(orphan, x.fabric == 0);
+            reports += one_if_both(stored <= i, x.reporting);
+            i += 1;
         }
         Lives {
             ids: ids,
             orphan: orphan,
+            reports: reports,
         }
-    }
-
-    // How many of the open ones are reports.
-    fn count_open_reports(self) -> usize
-        requires { ⌜ self .opens ≤ 80 ⌝ }
-        ensures { λ r. ⌜ r ≡ count isReport (opensOf self) ⌝ }
-    {
-        let mut reports: usize = 0;
-        let mut i = PLACES - self.opens;
-        while i < 80 {
-            let x = self.places[i];
-            i += 1;
-            if x.reporting {
-                reports += 1;
-            }
-        }
-        reports
     }
 
     // The place of the first stored one that passes the test, or the number of stored ones where none does.
@@ -533,6 +519,14 @@ impl Table {
             i += 1;
         }
         i
+    }
+
+    // The one at a place.
+    fn at(self, i: usize) -> Subscription
+        requires { ⌜ i < 80 ⌝ }
+        ensures { λ r. ⌜ r ≡ getD (self .places) i blank ⌝ }
+    {
+        self.places[i]
     }
 
     // How many stored ones pass the test.
@@ -578,7 +572,7 @@ impl Table {
         }
     }
 
-    // The first stored one that is reportable opens its report; its place is filled by the last stored one.
+    // The first stored one that is reportable opens its report.
     fn hand_out(self, at: Settings) -> Reported
         requires { ⌜ (self .stored + self .opens ≤ 80) × (logKept (self .log) ≡ true) ⌝ }
         ensures { λ r. ⌜ r ≡ handOutIn self at ⌝ }
@@ -587,14 +581,7 @@ impl Table {
         let newest = log.newest().value();
         let i = self.find_stored(Test::Ready(at, newest));
         if i < self.stored {
-            let x = self.places[i];
-            let now = at.now;
-            let mark = log.watermark().value();
-            return Reported {
-                answer: HandOut::To(Handed { id: x.id, rx: x.rx }),
-                table: self.taken_out(i)
-                    .opened_up(x.handed_out(mark, at.events, now)),
-            };
+            return self.handed(i, log.watermark().value(), at);
         }
         Reported {
             answer: HandOut::Nothing,
@@ -602,17 +589,26 @@ impl Table {
         }
     }
 
-    // The stored one at a place goes: the last stored one fills its place, and its own is blank.
-    fn taken_out(mut self, i: usize) -> Table
-        requires { ⌜ (self .stored ≤ 80) × (i < self .stored) ⌝ }
-        ensures { λ r. ⌜ r ≡ takenOut self i ⌝ }
+    // The stored one at a place is handed out: the last stored one fills its place, and it opens at the far end.
+    fn handed(mut self, i: usize, mark: u64, at: Settings) -> Reported
+        requires { ⌜ (self .stored + self .opens ≤ 80) × ((i < self .stored) × (mark ≡ watermarkOf (self .log))) ⌝ }
+        ensures { λ r. ⌜ r ≡ handedOut self at i ⌝ }
     {
+        let x = self.places[i];
+        let now = at.now;
         let n = self.stored - 1;
+        let opens = self.opens;
+        let end = 79 - opens;
         let last = self.places[n];
         self.places[i] = last;
         self.places[n] = Subscription::BLANK;
+        self.places[end] = x.handed_out(mark, at.events, now);
         self.stored = n;
-        self
+        self.opens = opens + 1;
+        Reported {
+            answer: HandOut::To(Handed { id: x.id, rx: x.rx }),
+            table: self,
+        }
     }
 
     // One more is open.
@@ -757,55 +753,33 @@ impl Table {
         }
     }
 
-    // The open one at a place ends. A report that was cancelled is dropped whatever its outcome, and its reason goes with it.
-    fn ended(self, at: usize, outcome: u8) -> Completed
+    // The open one at a place ends: the newest open one fills its place, and it is stored at the end where it stays.
+    fn ended(mut self, at: usize, outcome: u8) -> Completed
         requires { ⌜ (self .stored + self .opens ≤ 80) × ((80 - self .opens ≤ at) × (at < 80)) ⌝ }
         ensures { λ r. ⌜ r ≡ endedAt self at outcome ⌝ }
     {
         let x = self.places[at];
-        let stays = self.stays(x, outcome);
-        Completed {
-            answer: Completion::Ended(Ended {
-                kept: stays,
-                failed: x.has_failed(outcome),
-            }),
-            table: self.after_end(at, x, outcome, stays)
-                .with_cancel(reason_left(x.reporting, self.cancel)),
-        }
-    }
-
-    fn stays(self, x: Subscription, outcome: u8) -> bool
-        ensures { λ r. ⌜ r ≡ staysAfter self x outcome ⌝ }
-    {
-        if is_cancelled(x.reporting, self.cancel) {
-            return false;
-        }
-        x.is_kept(outcome)
-    }
-
-    fn after_end(self, at: usize, x: Subscription, outcome: u8, stays: bool) -> Table
-        requires { ⌜ (self .stored + self .opens ≤ 80) × ((80 - self .opens ≤ at) × (at < 80)) ⌝ }
-        ensures { λ r. ⌜ r ≡ cond stays (storedLast (closedAt self at) (closed x outcome)) (closedAt self at) ⌝ }
-    {
-        let rest = self.closed_at(at);
-        if stays {
-            return rest.stored_last(x.close(outcome));
-        }
-        rest
-    }
-
-    // The open one at a place goes: the newest open one fills its place, and its own is blank.
-    fn closed_at(mut self, at: usize) -> Table
-        requires { ⌜ (self .opens ≤ 80) × ((80 - self .opens ≤ at) × (at < 80)) ⌝ }
-        ensures { λ r. ⌜ r ≡ closedAt self at ⌝ }
-    {
+        let before = self.cancel;
         let opens = self.opens;
         let first = PLACES - opens;
         let newest = self.places[first];
         self.places[at] = newest;
         self.places[first] = Subscription::BLANK;
         self.opens = opens - 1;
-        self
+        self.cancel = reason_left(x.reporting, before);
+        let stays = stays(before, x, outcome);
+        if stays {
+            let n = self.stored;
+            self.places[n] = x.close(outcome);
+            self.stored = n + 1;
+        }
+        Completed {
+            answer: Completion::Ended(Ended {
+                kept: stays,
+                failed: x.has_failed(outcome),
+            }),
+            table: self,
+        }
     }
 
     // One more is stored, at the end.
@@ -849,6 +823,7 @@ impl Table {
 pub struct Lives {
     pub ids: [u32; 80],
     pub orphan: bool,
+    pub reports: usize,
 }
 
 // Which subscriptions a scan is after.
@@ -971,6 +946,17 @@ fn either(a: bool, b: bool) -> bool
     if a { true } else { b }
 }
 
+fn one_if_both(a: bool, b: bool) -> usize
+    ensures { λ r. ⌜ r ≡ one (a && b) ⌝ }
+{
+    if a {
+        if b {
+            return 1;
+        }
+    }
+    0
+}
+
 fn lesser(a: u64, b: u64) -> u64
     ensures { λ r. ⌜ r ≡ min a b ⌝ }
 {
@@ -1010,6 +996,16 @@ fn reason_left(reporting: bool, reason: u8) -> u8
     ensures { λ r. ⌜ r ≡ cond reporting 0 reason ⌝ }
 {
     if reporting { 0 } else { reason }
+}
+
+// Whether an open one is stored again when it ends. A report that was cancelled is dropped whatever its outcome.
+fn stays(cancel: u8, x: Subscription, outcome: u8) -> bool
+    ensures { λ r. ⌜ r ≡ staysAfter cancel x outcome ⌝ }
+{
+    if is_cancelled(x.reporting, cancel) {
+        return false;
+    }
+    x.is_kept(outcome)
 }
 
 // Whether an open one is a report that was cancelled.

@@ -1,10 +1,33 @@
--- `ended` meets its contract by what its parts ensure.
+-- `ended` meets its contract: the two ways meet behind the flag, and on each the table is the definition's.
 -- Assumes nothing.
-use Prim.Native.Nat.{_-_}
+use mathlib.Core.Path.{_≡_, refl, sym, _∙_}
+use mathlib.Core.Bool.{Bool, cond}
+use mathlib.Core.Logic.{⊎-elim}
+use Prim.Native.Nat.{ℕ, _-_}
 use borrow.Author.Needs.{needs}
-use Rattle.table.specs.Calls.{endedAt}
+use lib.ListN.{getD}
+use Rattle.subscription.specs.declared.Subscription.{Subscription}
+use Rattle.table.specs.declared.Table.{Table}
+use Rattle.table.specs.declared.Completion.the-variants as completion
+use Rattle.subscription.specs.Life.{blank, failed, closed}
+use Rattle.table.specs.Moves.{withReason, storedLast, closedAt}
+use Rattle.table.specs.Calls.{staysAfter, tableAfter, endedAt}
 use Rattle.table.proofs.Table.ended.Statement.{statement}
 use Rattle.table.proofs.Table.ended.Tie as tie
+
+-- what the two ways leave, each by its flag
+module _ (t : Table) (j o : ℕ) where
+  abbrev x : Subscription
+  x = getD (t .places) j blank
+
+  abbrev reason : ℕ
+  reason = cond (x .reporting) 0 (t .cancel)
+
+  told : {kept quiet : Bool} {u : Table} → kept ≡ staysAfter (t .cancel) x o → quiet ≡ failed x o
+      → u ≡ withReason (cond kept (storedLast (closedAt t j) (closed x o)) (closedAt t j)) reason
+      → endedAt t j o ≡ record { answer = completion.Ended (record { kept = kept; failed = quiet }); table = u }
+  unfolding endedAt
+  told e f g = rw (← e, ← f, g)
 
 mul-x : tie.Need-mul-x
 mul-x c = search needs
@@ -12,25 +35,62 @@ mul-x c = search needs
 element-copy-out-x : tie.Need-element-copy-out-x
 element-copy-out-x c = search needs
 
-stays-requires : tie.Need-stays-requires
-stays-requires c κs = search needs
+sub-first : tie.Need-sub-first
+sub-first c = search needs
 
-has-failed-requires : tie.Need-has-failed-requires
-has-failed-requires c κs = search needs
+mul-newest : tie.Need-mul-newest
+mul-newest c = search needs
 
-after-end-requires : tie.Need-after-end-requires
-after-end-requires c κs = search needs
+element-copy-out-newest : tie.Need-element-copy-out-newest
+element-copy-out-newest c = search needs
+
+mul-newest-2 : tie.Need-mul-newest-2
+mul-newest-2 c = search needs
+
+element-set-from-newest : tie.Need-element-set-from-newest
+element-set-from-newest c = search needs
+
+mul-t12 : tie.Need-mul-t12
+mul-t12 c = search needs
+
+element-set-from-self : tie.Need-element-set-from-self
+element-set-from-self c = search needs
+
+sub-self : tie.Need-sub-self
+sub-self c = search needs
 
 reason-left-requires : tie.Need-reason-left-requires
 reason-left-requires c κs = search needs
 
-with-cancel-requires : tie.Need-with-cancel-requires
-with-cancel-requires c κs = search needs
+stays-requires : tie.Need-stays-requires
+stays-requires c κs = search needs
+
+close-requires : tie.Need-close-requires
+close-requires c κs = search needs
+
+mul-t28 : tie.Need-mul-t28
+mul-t28 c = search needs
+
+element-set-from-self-2 : tie.Need-element-set-from-self-2
+element-set-from-self-2 c = search needs
+
+add-self : tie.Need-add-self
+add-self c = search needs
+
+has-failed-requires : tie.Need-has-failed-requires
+has-failed-requires c κs = search needs
 
 returns : tie.Need-returns
-unfolding endedAt
+unfolding storedLast closedAt
 returns c =
-    rw (← c .before .before .before .before .stays .ensures, ← c .before .before .before .has-failed .ensures, ← c .before .before .after-end .ensures, ← c .before .reason-left .ensures, ← c .with-cancel .ensures)
+    let a = c .before .before .before .before .before .before .args in
+    let s = c .before .before .stays .ensures in
+    let r = c .before .before .before .reason-left .ensures in
+    sym (told (a .t1) (a .at) (a .outcome) s (c .has-failed .ensures)
+    (⊎-elim
+    (λ w. w .2 ∙ rw (w .0 .taken, ← r, ← w .1 .ensures))
+    (λ w. w .1 ∙ rw (w .0 .left, ← r))
+    (c .before .if1 .came)))
 
 pub ended-spec : {M : Type 1} → statement M
 ended-spec =
@@ -38,9 +98,19 @@ ended-spec =
     (tie.spec
     mul-x
     element-copy-out-x
-    stays-requires
-    has-failed-requires
-    after-end-requires
+    sub-first
+    mul-newest
+    element-copy-out-newest
+    mul-newest-2
+    element-set-from-newest
+    mul-t12
+    element-set-from-self
+    sub-self
     reason-left-requires
-    with-cancel-requires
+    stays-requires
+    close-requires
+    mul-t28
+    element-set-from-self-2
+    add-self
+    has-failed-requires
     returns)

@@ -88,22 +88,17 @@ returns-4 c =
     sym (within-kept t (long (c .before .before .before .before .before .before .before .before .before .before .before)) w
     ∙ rw (sym (c .before .before .before .before .before .before .before .is-kept .ensures) ∙ not-false _ (c .before .before .before .before .before .before .if2 .left), sym d ∙ not-true _ (c .if4 .taken)))
 
-count-open-reports-requires : tie.Need-count-open-reports-requires
-count-open-reports-requires c κs =
-    let b = counts-fit (c .before .before .before .before .before .before .before .before .before .before .before .args .self) (long (c .before .before .before .before .before .before .before .before .before .before .before)) (sym (c .before .before .before .before .before .before .before .before .before .before .within .ensures) ∙ not-false _ (c .before .before .before .before .before .before .before .before .before .if1 .left)) in
-    omega arith
-
 cancel-fits-requires : tie.Need-cancel-fits-requires
 cancel-fits-requires c κs = search needs
 
 returns-5 : tie.Need-returns-5
 returns-5 c =
-    let t = c .before .before .before .before .before .before .before .before .before .before .before .before .before .args .self in
-    let w = sym (c .before .before .before .before .before .before .before .before .before .before .before .before .within .ensures) ∙ not-false _ (c .before .before .before .before .before .before .before .before .before .before .before .if1 .left) in
-    let b = counts-fit t (long (c .before .before .before .before .before .before .before .before .before .before .before .before .before)) w in
-    let d = differ-is t (c .before .before .before .before .before .before .before .lives .result .ids) (long (c .before .before .before .before .before .before .before .before .before .before .before .before .before)) b (c .before .before .before .before .before .before .before .lives .ensures .ids-are) (c .before .before .before .all-differ .ensures) in
-    sym (within-kept t (long (c .before .before .before .before .before .before .before .before .before .before .before .before .before)) w
-    ∙ rw (sym (c .before .before .before .before .before .before .before .before .before .is-kept .ensures) ∙ not-false _ (c .before .before .before .before .before .before .before .before .if2 .left), sym d ∙ not-false _ (c .before .before .if4 .left), sym (c .before .before .before .before .before .before .before .lives .ensures .orphan-is) ∙ c .before .before .before .before .before .before .if3 .left, ← c .before .count-open-reports .ensures)
+    let t = c .before .before .before .before .before .before .before .before .before .before .before .before .args .self in
+    let w = sym (c .before .before .before .before .before .before .before .before .before .before .before .within .ensures) ∙ not-false _ (c .before .before .before .before .before .before .before .before .before .before .if1 .left) in
+    let b = counts-fit t (long (c .before .before .before .before .before .before .before .before .before .before .before .before)) w in
+    let d = differ-is t (c .before .before .before .before .before .before .lives .result .ids) (long (c .before .before .before .before .before .before .before .before .before .before .before .before)) b (c .before .before .before .before .before .before .lives .ensures .ids-are) (c .before .before .all-differ .ensures) in
+    sym (within-kept t (long (c .before .before .before .before .before .before .before .before .before .before .before .before)) w
+    ∙ rw (sym (c .before .before .before .before .before .before .before .before .is-kept .ensures) ∙ not-false _ (c .before .before .before .before .before .before .before .if2 .left), sym d ∙ not-false _ (c .before .if4 .left), sym (c .before .before .before .before .before .before .lives .ensures .orphan-is) ∙ c .before .before .before .before .before .if3 .left, ← c .before .before .before .before .before .before .lives .ensures .reports-are)
     (sym (c .cancel-fits .ensures)))
 
 pub is-kept-spec : {M : Type 1} → statement M
@@ -121,6 +116,5 @@ is-kept-spec =
     slice-aggregate-all-differ
     all-differ-requires
     returns-4
-    count-open-reports-requires
     cancel-fits-requires
     returns-5)

@@ -2,8 +2,8 @@
 -- Assumes nothing.
 use mathlib.Core.Path.{sym, _∙_}
 use borrow.Author.Needs.{needs}
-use Rattle.table.proofs.Table.stays.Statement.{statement}
-use Rattle.table.proofs.Table.stays.Tie as tie
+use Rattle.table.proofs.stays.Statement.{statement}
+use Rattle.table.proofs.stays.Tie as tie
 
 is-cancelled-requires : tie.Need-is-cancelled-requires
 is-cancelled-requires c κs = search needs
