@@ -17,29 +17,29 @@ use Rattle.rules.specs.Calls.{Op}
 use Rattle.rules.specs.Machine.{step}
 use Rattle.rules.specs.Calls as call
 use Rattle.rules.proofs.Kept.{step-well-kept}
-use Rattle.table.specs.declared.Table.{Table}
-use Rattle.table.specs.declared.Admission.{Admission}
-use Rattle.table.specs.declared.Completion.{Completion}
-use Rattle.table.specs.declared.HandOut.{HandOut}
-use Rattle.table.specs.declared.Hearing.{Hearing}
-use Rattle.table.specs.declared.Moment.{Moment}
-use Rattle.table.specs.declared.Admission.the-variants as admission
-use Rattle.table.specs.declared.Completion.the-variants as completion
-use Rattle.table.specs.declared.HandOut.the-variants as handOut
-use Rattle.table.specs.declared.Hearing.the-variants as hearing
-use Rattle.table.specs.declared.Moment.the-variants as moment
-use Rattle.table.specs.Views.{view, kept}
-use Rattle.table.specs.Tidiness.{Whole}
-use Rattle.table.specs.Calls.{newTable, addTo, noteIn, reportIn, completeIn, attributeAt, nextAt}
-use Rattle.table.specs.Agreement.{handOutAnswer, admissionAnswer, hearingAnswer, completionAnswer, toldAnswer, momentAnswer, newAnswer, newLeaves}
-use Rattle.table.proofs.NewAgrees.{new-agrees, new-lasts}
-use Rattle.table.proofs.AdmissionAgrees.{add-agrees, note-agrees}
-use Rattle.table.proofs.ReportAgrees.{report-agrees}
-use Rattle.table.proofs.CompletionAgrees.{complete-agrees, attribute-agrees}
-use Rattle.table.proofs.QuestionsAgree.{next-agrees}
-use Rattle.table.proofs.Lasting.{add-lasts, note-lasts, report-lasts, complete-lasts}
-use Rattle.table.proofs.Tidying.{whole-lasts, fresh-tidy}
-use Rattle.table.proofs.TidyViews.{whole-kept}
+use Rattle.places.specs.declared.Table.{Table}
+use Rattle.places.specs.declared.Admission.{Admission}
+use Rattle.places.specs.declared.Completion.{Completion}
+use Rattle.places.specs.declared.HandOut.{HandOut}
+use Rattle.places.specs.declared.Hearing.{Hearing}
+use Rattle.places.specs.declared.Moment.{Moment}
+use Rattle.places.specs.declared.Admission.the-variants as admission
+use Rattle.places.specs.declared.Completion.the-variants as completion
+use Rattle.places.specs.declared.HandOut.the-variants as handOut
+use Rattle.places.specs.declared.Hearing.the-variants as hearing
+use Rattle.places.specs.declared.Moment.the-variants as moment
+use Rattle.places.specs.Views.{view, kept}
+use Rattle.places.specs.Tidiness.{Whole}
+use Rattle.places.specs.Calls.{newTable, addTo, noteIn, reportIn, completeIn, attributeAt, nextAt}
+use Rattle.places.specs.Agreement.{handOutAnswer, admissionAnswer, hearingAnswer, completionAnswer, toldAnswer, momentAnswer, newAnswer, newLeaves}
+use Rattle.places.proofs.NewAgrees.{new-agrees, new-lasts}
+use Rattle.places.proofs.AdmissionAgrees.{add-agrees, note-agrees}
+use Rattle.places.proofs.ReportAgrees.{report-agrees}
+use Rattle.places.proofs.CompletionAgrees.{complete-agrees, attribute-agrees}
+use Rattle.places.proofs.QuestionsAgree.{next-agrees}
+use Rattle.places.proofs.Lasting.{add-lasts, note-lasts, report-lasts, complete-lasts}
+use Rattle.places.proofs.Tidying.{whole-lasts, fresh-tidy}
+use Rattle.places.proofs.TidyViews.{whole-kept}
 use Rattle.lines.specs.declared.Line.{Line}
 use Rattle.lines.specs.declared.Line.the-variants.{New, Add, Note, Report, Done, Attr, Wake, Bad}
 use Rattle.answering.specs.declared.Reply.{Reply}

@@ -5,9 +5,9 @@ use Prim.Native.Nat.{ℕ}
 use Rattle.answers.specs.declared.Change.{Change}
 use Rattle.answers.specs.declared.Change.the-variants as change
 use Rattle.refusal.specs.declared.Refusal.{Refusal}
-use Rattle.table.specs.declared.Settled.{Settled}
-use Rattle.table.specs.declared.Table.{Table}
-use Rattle.table.specs.Calls.{newTable}
+use Rattle.places.specs.declared.Settled.{Settled}
+use Rattle.places.specs.declared.Table.{Table}
+use Rattle.places.specs.Calls.{newTable}
 use Rattle.answering.specs.declared.Reply.{Reply}
 use Rattle.answering.specs.Replies.{told, refusedWith}
 use Rattle.answering.specs.Answers.{answered, renewedBy, renewedIn}

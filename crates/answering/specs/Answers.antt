@@ -9,8 +9,8 @@ use Rattle.answers.specs.declared.Change.{Change}
 use Rattle.answers.specs.declared.Change.the-variants as change
 use Rattle.subscription.specs.declared.Request.{Request}
 use Rattle.subscription.specs.declared.Settings.{Settings}
-use Rattle.table.specs.declared.Table.{Table}
-use Rattle.table.specs.Calls.{newTable, addTo, noteIn, reportIn, completeIn, attributeAt, nextAt}
+use Rattle.places.specs.declared.Table.{Table}
+use Rattle.places.specs.Calls.{newTable, addTo, noteIn, reportIn, completeIn, attributeAt, nextAt}
 use Rattle.lines.specs.declared.Line.{Line}
 use Rattle.lines.specs.declared.Line.the-variants.{New, Add, Note, Report, Done, Attr, Wake, Bad}
 use Rattle.answering.specs.declared.Answered.{Answered}

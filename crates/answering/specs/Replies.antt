@@ -5,17 +5,17 @@ use Rattle.lists.specs.Search.{one}
 use Rattle.refusal.specs.declared.Refusal.{Refusal}
 use Rattle.refusal.specs.Numbers.{numberOf}
 use Rattle.answers.specs.declared.Told.{Told}
-use Rattle.table.specs.declared.Admission.{Admission}
-use Rattle.table.specs.declared.Completion.{Completion}
-use Rattle.table.specs.declared.HandOut.{HandOut}
-use Rattle.table.specs.declared.Hearing.{Hearing}
-use Rattle.table.specs.declared.Moment.{Moment}
+use Rattle.places.specs.declared.Admission.{Admission}
+use Rattle.places.specs.declared.Completion.{Completion}
+use Rattle.places.specs.declared.HandOut.{HandOut}
+use Rattle.places.specs.declared.Hearing.{Hearing}
+use Rattle.places.specs.declared.Moment.{Moment}
 use Rattle.answers.specs.declared.Told.the-variants as is
-use Rattle.table.specs.declared.Admission.the-variants as admission
-use Rattle.table.specs.declared.Completion.the-variants as completion
-use Rattle.table.specs.declared.HandOut.the-variants as handOut
-use Rattle.table.specs.declared.Hearing.the-variants as hearing
-use Rattle.table.specs.declared.Moment.the-variants as moment
+use Rattle.places.specs.declared.Admission.the-variants as admission
+use Rattle.places.specs.declared.Completion.the-variants as completion
+use Rattle.places.specs.declared.HandOut.the-variants as handOut
+use Rattle.places.specs.declared.Hearing.the-variants as hearing
+use Rattle.places.specs.declared.Moment.the-variants as moment
 use Rattle.answering.specs.declared.Reply.{Reply}
 
 -- not refused: code 0 and a value

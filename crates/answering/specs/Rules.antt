@@ -12,7 +12,7 @@ use Rattle.rules.specs.Machine.{Outcome, outcome, step}
 use Rattle.rules.specs.Calls as call
 use Rattle.lines.specs.declared.Line.{Line}
 use Rattle.lines.specs.declared.Line.the-variants.{New, Add, Note, Report, Done, Attr, Wake, Bad}
-use Rattle.table.specs.Views.{view}
+use Rattle.places.specs.Views.{view}
 use Rattle.answering.specs.declared.Answered.{Answered}
 use Rattle.answering.specs.declared.Reply.{Reply}
 use Rattle.answering.specs.Replies.{told, refusedWith}

@@ -10,15 +10,15 @@ ghost use Rattle.answering.specs.Answers.{requestOf, settingsOf, renewed
 use answers::Change;
 use answers::Told;
 use lines::Line;
+use places::Admission;
+use places::Completion;
+use places::HandOut;
+use places::Hearing;
+use places::Moment;
+use places::Table;
 use refusal::Refusal;
 use subscription::Request;
 use subscription::Settings;
-use table::Admission;
-use table::Completion;
-use table::HandOut;
-use table::Hearing;
-use table::Moment;
-use table::Table;
 use time::Instant;
 use time::KeepAlive;
 
@@ -75,7 +75,7 @@ pub fn answer(table: Table, line: Line) -> Answered
 fn renewed(table: Table, capacity: u8) -> Answered
     ensures { λ r. ⌜ r ≡ renewedIn table capacity ⌝ }
 {
-    let made = Table::new(capacity);
+    let made = table::new(capacity);
     let change = made.answer;
     match change {
         Change::Done => {
@@ -111,7 +111,7 @@ fn added(
         rx: rx,
         fabric: fabric,
     };
-    let admitted = table.add(request, events, Instant::at(now));
+    let admitted = table::add(table, request, events, Instant::at(now));
     let after = admitted.table;
     let admission = admitted.answer;
     Answered {
@@ -123,7 +123,7 @@ fn added(
 fn noted(table: Table, endpoint: u16, cluster: u32, attr: u32) -> Answered
     ensures { λ r. ⌜ r ≡ notedIn table endpoint cluster attr ⌝ }
 {
-    let heard = table.note(endpoint, cluster, attr);
+    let heard = table::note(table, endpoint, cluster, attr);
     let after = heard.table;
     let hearing = heard.answer;
     Answered {
@@ -141,7 +141,7 @@ fn reported(table: Table, now: u64, events: u64, icd: bool, all: bool) -> Answer
         kind: KeepAlive::of(icd),
         all: all,
     };
-    let reported = table.report(at);
+    let reported = table::report(table, at);
     let after = reported.table;
     let hand = reported.answer;
     Answered {
@@ -153,7 +153,7 @@ fn reported(table: Table, now: u64, events: u64, icd: bool, all: bool) -> Answer
 fn done(table: Table, id: u32, outcome: u8) -> Answered
     ensures { λ r. ⌜ r ≡ doneIn table id outcome ⌝ }
 {
-    let completed = table.complete(id, outcome);
+    let completed = table::complete(table, id, outcome);
     let after = completed.table;
     let completion = completed.answer;
     Answered {
@@ -166,7 +166,7 @@ fn done(table: Table, id: u32, outcome: u8) -> Answered
 fn asked(table: Table, id: u32, endpoint: u16, cluster: u32, attr: u32) -> Answered
     ensures { λ r. ⌜ r ≡ askedIn table id endpoint cluster attr ⌝ }
 {
-    let told = table.should_report_attr(id, endpoint, cluster, attr);
+    let told = table::should_report_attr(table, id, endpoint, cluster, attr);
     Answered {
         table: table,
         reply: of_told(told),
@@ -176,7 +176,7 @@ fn asked(table: Table, id: u32, endpoint: u16, cluster: u32, attr: u32) -> Answe
 fn waking(table: Table, events: u64, icd: bool) -> Answered
     ensures { λ r. ⌜ r ≡ wakingIn table events icd ⌝ }
 {
-    let moment = table.next_report_at(events, KeepAlive::of(icd));
+    let moment = table::next_report_at(table, events, KeepAlive::of(icd));
     Answered {
         table: table,
         reply: of_moment(moment),

@@ -10,7 +10,7 @@ use lib.Dec.{leb}
 use lib.ListN.{length, getD}
 use Rattle.time.specs.declared.Instant.{Instant}
 use Rattle.time.specs.declared.KeepAlive.{KeepAlive}
-use Rattle.table.specs.declared.Table.{Table}
+use Rattle.places.specs.declared.Table.{Table}
 use Rattle.lists.specs.Search.{some}
 use Rattle.rules.specs.States.{fresh, capacityFits}
 use Rattle.rules.specs.Calls.{Op}
@@ -18,7 +18,7 @@ use Rattle.rules.specs.Machine.{firstOf, nextInstantIn, step, run}
 use Rattle.rules.specs.Histories.{isNew}
 use Rattle.rules.specs.Counts.{admissions, resumptions, endings}
 use Rattle.rules.specs.Numbers.{valuesOf}
-use Rattle.table.specs.Views.{view, storedOf, freshTable}
+use Rattle.places.specs.Views.{view, storedOf, freshTable}
 use Rattle.demands.specs.Histories.{replyTo, tableAfter}
 use Rattle.rules.specs.Calls as call
 use Rattle.rules.proofs.Clauses.{statistics-objects, refusal-kept, first-none}
@@ -27,7 +27,7 @@ use Rattle.rules.proofs.Refusals.{unrefused-acts}
 use Rattle.rules.proofs.Kept.{always-well-kept}
 use Rattle.rules.proofs.Counts.{places-from-fresh}
 use Rattle.rules.proofs.Instants.{any-answers-next}
-use Rattle.table.proofs.Tidying.{whole-lasts}
+use Rattle.places.proofs.Tidying.{whole-lasts}
 use Rattle.demands.proofs.Histories.{reply-agrees, fresh-whole, history-lasts, history-well, begun, code-states}
 
 module _ (capacity : ℕ) (able : capacityFits capacity ≡ true) (ops : List Op) where

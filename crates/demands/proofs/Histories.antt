@@ -7,31 +7,31 @@ use mathlib.Core.List.{List, [], _∷_}
 use Prim.Native.Nat.{ℕ}
 use Rattle.answers.specs.declared.Change.{Change}
 use Rattle.answers.specs.declared.Change.the-variants as change
-use Rattle.table.specs.declared.Table.{Table}
+use Rattle.places.specs.declared.Table.{Table}
 use Rattle.lists.specs.Search.{some}
 use Rattle.rules.specs.States.{State, capacityFits, fresh, wellKept}
 use Rattle.rules.specs.Calls.{Op, Answer}
 use Rattle.rules.specs.Machine.{outcome, step, run, answers}
 use Rattle.rules.specs.Histories.{refusedBy}
-use Rattle.table.specs.Views.{view, kept, freshTable}
-use Rattle.table.specs.Tidiness.{Whole, Tidy, Lasting}
-use Rattle.table.specs.Calls.{newTable}
-use Rattle.table.specs.Agreement.{newLeaves}
+use Rattle.places.specs.Views.{view, kept, freshTable}
+use Rattle.places.specs.Tidiness.{Whole, Tidy, Lasting}
+use Rattle.places.specs.Calls.{newTable}
+use Rattle.places.specs.Agreement.{newLeaves}
 use Rattle.demands.specs.Histories.{replyTo, tableAfter, replies}
 use Rattle.rules.specs.Calls as call
 use Rattle.rules.proofs.Acts.{run-none, run-more, answers-none, answers-more}
 use Rattle.rules.proofs.Kept.{step-well-kept, run-well-kept, fresh-well-kept, never-seven}
-use Rattle.table.proofs.NewAgrees.{new-agrees, new-lasts, fresh-view}
-use Rattle.table.proofs.AdmissionAgrees.{add-agrees, resume-agrees, note-agrees}
-use Rattle.table.proofs.ReportAgrees.{report-agrees}
-use Rattle.table.proofs.CompletionAgrees.{complete-agrees, attribute-agrees, send-agrees}
-use Rattle.table.proofs.RemovalAgrees.{remove-agrees}
-use Rattle.table.proofs.ClearingAgrees.{clear-agrees}
-use Rattle.table.proofs.LeastAgrees.{purge-agrees, alive-agrees}
-use Rattle.table.proofs.QuestionsAgree.{any-agrees, next-agrees, load-agrees, has-agrees}
-use Rattle.table.proofs.Tidying.{whole-lasts, tidy-lasts, fresh-tidy}
-use Rattle.table.proofs.Lasting.{note-lasts, report-lasts, add-lasts, resume-lasts, complete-lasts, remove-lasts, clear-lasts, purge-lasts}
-use Rattle.table.proofs.TidyViews.{whole-kept, equal-views}
+use Rattle.places.proofs.NewAgrees.{new-agrees, new-lasts, fresh-view}
+use Rattle.places.proofs.AdmissionAgrees.{add-agrees, resume-agrees, note-agrees}
+use Rattle.places.proofs.ReportAgrees.{report-agrees}
+use Rattle.places.proofs.CompletionAgrees.{complete-agrees, attribute-agrees, send-agrees}
+use Rattle.places.proofs.RemovalAgrees.{remove-agrees}
+use Rattle.places.proofs.ClearingAgrees.{clear-agrees}
+use Rattle.places.proofs.LeastAgrees.{purge-agrees, alive-agrees}
+use Rattle.places.proofs.QuestionsAgree.{any-agrees, next-agrees, load-agrees, has-agrees}
+use Rattle.places.proofs.Tidying.{whole-lasts, tidy-lasts, fresh-tidy}
+use Rattle.places.proofs.Lasting.{note-lasts, report-lasts, add-lasts, resume-lasts, complete-lasts, remove-lasts, clear-lasts, purge-lasts}
+use Rattle.places.proofs.TidyViews.{whole-kept, equal-views}
 use Rattle.round.proofs.RoundAgrees.{round-agrees}
 use Rattle.round.proofs.Lasting.{round-lasts}
 

@@ -8,7 +8,7 @@ use Rattle.lists.specs.Search.{some}
 use Rattle.original.specs.Demand.{strays}
 use Rattle.rules.specs.States.{capacityFits}
 use Rattle.rules.specs.Calls.{Op}
-use Rattle.table.specs.Views.{view, freshTable}
+use Rattle.places.specs.Views.{view, freshTable}
 use Rattle.original.specs.Likeness.{originalOf, stateOf}
 use Rattle.original.proofs.SameHistories.{demand-2}
 use Rattle.original.proofs.Back.{nothing-left-out}

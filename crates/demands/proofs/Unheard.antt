@@ -14,7 +14,7 @@ use Rattle.refusal.specs.declared.Refusal.{Refusal}
 use Rattle.refusal.specs.declared.Refusal.the-variants.{Full, NotOpen, ReportOpen, IdLive, BadArgument, PrimingOpen, NotWellKept, BadLine}
 use Rattle.refusal.specs.Numbers.{numberOf}
 use Rattle.subscription.specs.declared.Settings.{Settings}
-use Rattle.table.specs.declared.Table.{Table}
+use Rattle.places.specs.declared.Table.{Table}
 use Rattle.lists.specs.Search.{some, distinct}
 use Rattle.rules.specs.States.{State, fresh, capacityFits, hasId, idLive, wellKept}
 use Rattle.rules.specs.Calls.{Op}
@@ -26,16 +26,16 @@ use Rattle.heard.specs.Playing.{asCall, Turn, withEvents, saysNothing, nobody, 
 use Rattle.heard.specs.Playing as machine
 use Rattle.heard.specs.Demand.{RoundBegins}
 use Rattle.heard.specs.Demand as demand
-use Rattle.table.specs.Views.{view, freshTable}
-use Rattle.table.specs.Tidiness.{Whole}
+use Rattle.places.specs.Views.{view, freshTable}
+use Rattle.places.specs.Tidiness.{Whole}
 use Rattle.demands.specs.Histories.{replyTo, tableAfter}
 use Rattle.demands.specs.Playing.{Played, also, turned, reported, play}
 use Rattle.demands.specs.Unheard.{come, noted, UnheardStaysYes, NobodyTwice, RoundHears, RoundCallPlays}
 use Rattle.rules.specs.Calls as call
 use Rattle.lists.proofs.Bools.{split}
 use Rattle.rules.proofs.Refusals.{same-refusal}
-use Rattle.table.proofs.Tidying.{whole-lasts}
-use Rattle.table.proofs.NewAgrees.{fresh-view}
+use Rattle.places.proofs.Tidying.{whole-lasts}
+use Rattle.places.proofs.NewAgrees.{fresh-view}
 use Rattle.heard.proofs.Playing.{play-nil, play-nobody, play-somebody}
 use Rattle.heard.proofs.Unheard.{unheard-stays-yes}
 use Rattle.heard.proofs.Rounds.{round-nobody-twice, round-hears, round-call-plays}

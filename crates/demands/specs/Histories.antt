@@ -2,10 +2,10 @@
 -- the machine's words.
 -- Assumes nothing.
 use mathlib.Core.List.{List, [], _∷_}
-use Rattle.table.specs.declared.Table.{Table}
+use Rattle.places.specs.declared.Table.{Table}
 use Rattle.rules.specs.Calls.{Op, Answer}
-use Rattle.table.specs.Calls.{newTable, addTo, resumeIn, noteIn, reportIn, completeIn, removeIn, clearIn, purgeIn, attributeAt, sendAt, nextAt, anyAt, aliveAt, loadOf, hasAt}
-use Rattle.table.specs.Agreement.{newAnswer, newLeaves, admissionAnswer, hearingAnswer, handOutAnswer, completionAnswer, wakingAnswer, changeAnswer, toldAnswer, momentAnswer, aliveAnswer, loadAnswer}
+use Rattle.places.specs.Calls.{newTable, addTo, resumeIn, noteIn, reportIn, completeIn, removeIn, clearIn, purgeIn, attributeAt, sendAt, nextAt, anyAt, aliveAt, loadOf, hasAt}
+use Rattle.places.specs.Agreement.{newAnswer, newLeaves, admissionAnswer, hearingAnswer, handOutAnswer, completionAnswer, wakingAnswer, changeAnswer, toldAnswer, momentAnswer, aliveAnswer, loadAnswer}
 use Rattle.round.specs.Rounds.{roundOf}
 use Rattle.round.specs.Agreement.{roundingAnswer}
 use Rattle.rules.specs.Calls as call

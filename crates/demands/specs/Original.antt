@@ -13,7 +13,7 @@ use Rattle.original.specs.Table.{newTable}
 use Rattle.original.specs.Calls.{after, answered}
 use Rattle.original.specs.Likeness.{originalOf}
 use Rattle.original.specs.Demand.{strays}
-use Rattle.table.specs.Views.{view, freshTable}
+use Rattle.places.specs.Views.{view, freshTable}
 use Rattle.demands.specs.Histories.{tableAfter, replies}
 
 -- "histories from a fresh table in which no call was refused by another number than 1"

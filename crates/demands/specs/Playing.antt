@@ -5,7 +5,7 @@ use mathlib.Core.Bool.{Bool, true, false}
 use mathlib.Core.List.{List, [], _∷_, map}
 use Prim.Native.Nat.{ℕ}
 use Rattle.subscription.specs.declared.Settings.{Settings}
-use Rattle.table.specs.declared.Table.{Table}
+use Rattle.places.specs.declared.Table.{Table}
 use Rattle.rules.specs.Rounds.{handedId}
 use Rattle.heard.specs.Playing.{asCall, Turn, withEvents, saysNothing, nobody, whom}
 use Rattle.demands.specs.Histories.{Reply, replyTo, tableAfter}

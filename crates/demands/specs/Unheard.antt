@@ -8,7 +8,7 @@ use lib.Dec.{eqb}
 use lib.ListN.{length}
 use lib.Seq.{sets}
 use Rattle.subscription.specs.declared.Settings.{Settings}
-use Rattle.table.specs.declared.Table.{Table}
+use Rattle.places.specs.declared.Table.{Table}
 use Rattle.lists.specs.Search.{some, distinct}
 use Rattle.entries.specs.Paths.{entry, covers}
 use Rattle.rules.specs.States.{capacityFits, hasId, idLive}
@@ -17,7 +17,7 @@ use Rattle.rules.specs.Numbers.{codeOf}
 use Rattle.heard.specs.Hearing.{notesIn, unheard}
 use Rattle.heard.specs.Playing.{Turn, bare, odd, notesDuring, allowedBy}
 use Rattle.heard.specs.Demand.{RoundBegins}
-use Rattle.table.specs.Views.{view, storedOf, opensOf, freshTable}
+use Rattle.places.specs.Views.{view, storedOf, opensOf, freshTable}
 use Rattle.demands.specs.Histories.{replyTo, tableAfter}
 use Rattle.demands.specs.Playing.{play}
 use Rattle.rules.specs.Calls as call

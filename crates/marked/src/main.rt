@@ -4,13 +4,13 @@ ghost use Prim.Native.Nat.{_<_};
 use changes::ChangedAttrs;
 use entries::ChangedAttr;
 use libc::STDOUT_FILENO;
+use places::Admission;
+use places::Admitted;
+use places::Table;
 use subscription::Request;
 use subscription::SENT;
 use subscription::Settings;
 use subscription::Subscription;
-use table::Admission;
-use table::Admitted;
-use table::Table;
 use time::Instant;
 use time::KeepAlive;
 
@@ -93,9 +93,9 @@ fn entry(x: ChangedAttr) {
 
 // P11: after the resumed id the last one of all is given, and stays the next one: it is live, so the third is refused.
 fn last_id() {
-    let resumed = Table::new(80).table.resume(4294967294, REQUEST, 0);
-    let added = resumed.table.add(REQUEST, 0, Instant::at(1000));
-    let again = added.table.add(REQUEST, 0, Instant::at(1000));
+    let resumed = table::resume(table::new(80).table, 4294967294, REQUEST, 0);
+    let added = table::add(resumed.table, REQUEST, 0, Instant::at(1000));
+    let again = table::add(added.table, REQUEST, 0, Instant::at(1000));
     io::write_all(STDOUT_FILENO, b"P11");
     admission(resumed);
     admission(added);
@@ -105,21 +105,16 @@ fn last_id() {
 
 // P12: A, B and C have the ids 1, 2 and 3; who is stored, in order, before A is handed out and after it is kept.
 fn swap() {
-    let before = Table::new(80)
-        .table
-        .resume(1, REQUEST, 0)
-        .table
-        .resume(2, REQUEST, 0)
-        .table
-        .resume(3, REQUEST, 0)
-        .table;
+    let a = table::resume(table::new(80).table, 1, REQUEST, 0).table;
+    let b = table::resume(a, 2, REQUEST, 0).table;
+    let before = table::resume(b, 3, REQUEST, 0).table;
     let at = Settings {
         now: Instant::at(1000),
         events: 0,
         kind: KeepAlive::Default,
         all: false,
     };
-    let after = before.report(at).table.complete(1, SENT).table;
+    let after = table::complete(table::report(before, at).table, 1, SENT).table;
     io::write_all(STDOUT_FILENO, b"P12");
     stored(before);
     stored(after);

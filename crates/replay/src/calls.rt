@@ -22,13 +22,13 @@ use lines::BITS32;
 use lines::BITS64;
 use lines::FLAG;
 use lines::starts;
+use places::Admission;
+use places::Completion;
+use places::HandOut;
+use places::Hearing;
+use places::Table;
 use subscription::Request;
 use subscription::Settings;
-use table::Admission;
-use table::Completion;
-use table::HandOut;
-use table::Hearing;
-use table::Table;
 use time::Instant;
 use time::KeepAlive;
 
@@ -76,7 +76,7 @@ fn new(t: Table, n: Numbers) -> Answered {
         return bad(t);
     }
     let v = n.at;
-    let r = Table::new(low8(v[0]));
+    let r = table::new(low8(v[0]));
     let answer = r.answer;
     let table = r.table;
     match answer {
@@ -96,7 +96,7 @@ fn add(t: Table, n: Numbers) -> Answered {
         return bad(t);
     }
     let v = n.at;
-    let r = t.add(request(v), v[5], Instant::at(v[0]));
+    let r = table::add(t, request(v), v[5], Instant::at(v[0]));
     let answer = r.answer;
     let table = r.table;
     Answered {
@@ -110,7 +110,7 @@ fn resume(t: Table, n: Numbers) -> Answered {
         return bad(t);
     }
     let v = n.at;
-    let r = t.resume(low32(v[0]), request(v), v[5]);
+    let r = table::resume(t, low32(v[0]), request(v), v[5]);
     let answer = r.answer;
     let table = r.table;
     Answered {
@@ -142,7 +142,7 @@ fn note(t: Table, n: Numbers) -> Answered {
         return bad(t);
     }
     let v = n.at;
-    let r = t.note(low16(v[0]), low32(v[1]), low32(v[2]));
+    let r = table::note(t, low16(v[0]), low32(v[1]), low32(v[2]));
     let answer = r.answer;
     let table = r.table;
     Answered {
@@ -164,7 +164,7 @@ fn report(t: Table, n: Numbers) -> Answered {
         return bad(t);
     }
     let v = n.at;
-    let r = t.report(settings(v));
+    let r = table::report(t, settings(v));
     let answer = r.answer;
     let table = r.table;
     Answered {
@@ -197,7 +197,7 @@ fn done(t: Table, n: Numbers) -> Answered {
         return bad(t);
     }
     let v = n.at;
-    let r = t.complete(low32(v[0]), low8(v[1]));
+    let r = table::complete(t, low32(v[0]), low8(v[1]));
     let answer = r.answer;
     let table = r.table;
     Answered {
@@ -215,7 +215,7 @@ fn completed(answer: Completion) -> Reply {
 }
 
 fn purge(t: Table) -> Answered {
-    let r = t.purge_reported_changes();
+    let r = table::purge_reported_changes(t);
     let answer = r.answer;
     let table = r.table;
     Answered {

@@ -5,9 +5,9 @@ use super::texts::put_numbers;
 use super::texts::put_word;
 use entries::ChangedAttr;
 use notes::Held;
+use places::Table;
 use printing::put_field;
 use subscription::Subscription;
-use table::Table;
 
 // Above every id.
 const NO_ID: u64 = 0x1_0000_0000;

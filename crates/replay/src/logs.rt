@@ -9,8 +9,8 @@ use fields::Numbers;
 use fields::read_fields;
 use lines::BITS64;
 use lines::starts;
+use places::Table;
 use refusal::Refusal;
-use table::Table;
 
 const IDENTITY: [u64; 1] = [BITS64];
 

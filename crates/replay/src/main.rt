@@ -21,9 +21,9 @@ use cutting::scan;
 use cutting::start;
 use libc::STDIN_FILENO;
 use libc::STDOUT_FILENO;
+use places::Table;
 use replies::Answered;
 use replies::bad;
-use table::Table;
 
 // The capacity of the table at the start.
 const CAPACITY: u8 = 80;
@@ -41,7 +41,7 @@ struct State {
 fn main() {
     let mut held = io::buffer();
     let mut out = io::large_buffer();
-    let new = Table::new(CAPACITY);
+    let new = table::new(CAPACITY);
     let table = new.table;
     let mut state = State {
         table: table,

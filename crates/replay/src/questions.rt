@@ -20,11 +20,11 @@ use lines::BITS32;
 use lines::BITS64;
 use lines::FLAG;
 use lines::starts;
+use places::Alive;
+use places::Loaded;
+use places::Moment;
+use places::Table;
 use refusal::Refusal;
-use table::Alive;
-use table::Loaded;
-use table::Moment;
-use table::Table;
 use time::Instant;
 use time::KeepAlive;
 
@@ -59,7 +59,7 @@ pub(crate) fn reply(t: Table, s: &[u8]) -> Reply {
         return any(t, read_fields(s, 4, &ANY));
     }
     if is_word(s, b"keepalive") {
-        return alive(t.next_keep_alive_at());
+        return alive(table::next_keep_alive_at(t));
     }
     if starts(s, b"stats,") {
         return statistics(t, read_fields(s, 6, &STATS));
@@ -89,7 +89,7 @@ fn attribute(t: Table, n: Numbers) -> Reply {
         return refused(Refusal::BadLine);
     }
     let v = n.at;
-    told(t.should_report_attr(low32(v[0]), low16(v[1]), low32(v[2]), low32(v[3])))
+    told(table::should_report_attr(t, low32(v[0]), low16(v[1]), low32(v[2]), low32(v[3])))
 }
 
 fn send_empty(t: Table, n: Numbers) -> Reply {
@@ -97,7 +97,7 @@ fn send_empty(t: Table, n: Numbers) -> Reply {
         return refused(Refusal::BadLine);
     }
     let v = n.at;
-    told(t.should_send_if_empty(low32(v[0]), KeepAlive::of(v[1] == FLAG)))
+    told(table::should_send_if_empty(t, low32(v[0]), KeepAlive::of(v[1] == FLAG)))
 }
 
 fn wake(t: Table, n: Numbers) -> Reply {
@@ -105,7 +105,7 @@ fn wake(t: Table, n: Numbers) -> Reply {
         return refused(Refusal::BadLine);
     }
     let v = n.at;
-    match t.next_report_at(v[0], KeepAlive::of(v[1] == FLAG)) {
+    match table::next_report_at(t, v[0], KeepAlive::of(v[1] == FLAG)) {
         Moment::At(x) => one(x.ms),
         Moment::Refused(why) => refused(why),
     }
@@ -116,7 +116,7 @@ fn any(t: Table, n: Numbers) -> Reply {
         return refused(Refusal::BadLine);
     }
     let v = n.at;
-    told(t.any_reportable(Instant::at(v[0]), v[1], KeepAlive::of(v[2] == FLAG)))
+    told(table::any_reportable(t, Instant::at(v[0]), v[1], KeepAlive::of(v[2] == FLAG)))
 }
 
 // Whether there is one, and when.
@@ -134,7 +134,7 @@ fn statistics(t: Table, n: Numbers) -> Reply {
         return refused(Refusal::BadLine);
     }
     let v = n.at;
-    match t.load_stats(low8(v[0])) {
+    match table::load_stats(t, low8(v[0])) {
         Loaded::Is(x) => three(x.places as u64, x.fabric as u64, x.established as u64, 3),
         Loaded::Refused(why) => refused(why),
     }
@@ -145,7 +145,7 @@ fn has(t: Table, n: Numbers) -> Reply {
         return refused(Refusal::BadLine);
     }
     let v = n.at;
-    told(t.has_subscription_for(low8(v[0]), v[1]))
+    told(table::has_subscription_for(t, low8(v[0]), v[1]))
 }
 
 fn changed(log: ChangedAttrs, n: Numbers) -> Reply {

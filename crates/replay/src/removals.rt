@@ -14,9 +14,9 @@ use lines::BITS8;
 use lines::BITS32;
 use lines::BITS64;
 use lines::starts;
+use places::Table;
+use places::Waking;
 use subscription::Choice;
-use table::Table;
-use table::Waking;
 use time::Instant;
 
 const ALL: [u64; 1] = [BITS8];
@@ -66,7 +66,7 @@ fn removed(t: Table, n: Numbers, choice: Choice, reason: u64) -> Answered {
     if !n.all {
         return bad(t);
     }
-    let r = t.remove(choice, low8(reason));
+    let r = table::remove(t, choice, low8(reason));
     let answer = r.answer;
     let table = r.table;
     Answered {
@@ -76,7 +76,7 @@ fn removed(t: Table, n: Numbers, choice: Choice, reason: u64) -> Answered {
 }
 
 fn clear(t: Table) -> Answered {
-    let r = t.clear();
+    let r = table::clear(t);
     let answer = r.answer;
     let table = r.table;
     Answered {

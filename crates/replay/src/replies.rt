@@ -4,9 +4,9 @@ ghost use mathlib.Core.Path.{_≡_};
 ghost use Rattle.lists.specs.Search.{one as oneIf};
 use super::texts::behind;
 use super::texts::put_numbers;
+use places::Table;
 use printing::put_field;
 use refusal::Refusal;
-use table::Table;
 
 // A round tells two values and every id of its slice, of which there are at most 255; no other line tells more than six.
 pub(crate) const VALUES: usize = 257;

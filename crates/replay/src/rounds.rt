@@ -18,10 +18,10 @@ use lines::BITS8;
 use lines::BITS64;
 use lines::FLAG;
 use lines::starts;
+use places::Table;
 use round::Ending;
 use round::Rounding;
 use subscription::Settings;
-use table::Table;
 
 // Settings and slots.
 const ROUND: [u64; 5] = [BITS64, BITS64, FLAG, FLAG, BITS8];

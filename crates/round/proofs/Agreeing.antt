@@ -6,19 +6,19 @@ use mathlib.Core.List.{List, [], _∷_}
 use Prim.Native.Nat.{ℕ, _+_}
 use lib.ListN.{set}
 use Rattle.subscription.specs.declared.Settings.{Settings}
-use Rattle.table.specs.declared.Table.{Table}
-use Rattle.table.specs.declared.HandOut.{HandOut}
-use Rattle.table.specs.declared.HandOut.the-variants as handOut
+use Rattle.places.specs.declared.Table.{Table}
+use Rattle.places.specs.declared.HandOut.{HandOut}
+use Rattle.places.specs.declared.HandOut.the-variants as handOut
 use Rattle.round.specs.declared.Served.{Served}
 use Rattle.round.specs.declared.Turn.{Turn}
 use Rattle.lists.specs.Search.{some}
 use Rattle.rules.specs.States.{reportOpen, wellKept}
 use Rattle.rules.specs.Machine.{Turn as Stand, outcome, badOutcome, ready, nextUp, reported, completedIn, turned, roundFrom, step}
 use Rattle.rules.specs.Rounds.{handedId}
-use Rattle.table.specs.Views.{view, kept}
-use Rattle.table.specs.Tidiness.{Whole}
-use Rattle.table.specs.Calls.{reportIn, completeIn}
-use Rattle.table.specs.Agreement.{handOutAnswer, reportSays}
+use Rattle.places.specs.Views.{view, kept}
+use Rattle.places.specs.Tidiness.{Whole}
+use Rattle.places.specs.Calls.{reportIn, completeIn}
+use Rattle.places.specs.Agreement.{handOutAnswer, reportSays}
 use Rattle.round.specs.Rounds.{refuses, isShut, saysNothing, isSilent, noTurn, turnAfter, turnOf, served}
 use Rattle.rules.specs.Calls as call
 use Rattle.lists.proofs.Bools.{split, or-neither}
@@ -28,11 +28,11 @@ use Rattle.rules.proofs.Kept.{step-well-kept}
 use Rattle.rules.proofs.Sound.{kept-sound, sound-kept}
 use Rattle.rules.proofs.Steps.{turn-sound, turn-shut}
 use Rattle.rules.proofs.Turns.{report-step, report-silent, complete-step}
-use Rattle.table.proofs.Tidying.{whole-lasts}
-use Rattle.table.proofs.Lasting.{report-lasts, complete-lasts}
-use Rattle.table.proofs.TidyViews.{whole-kept}
-use Rattle.table.proofs.ReportAgrees.{report-agrees}
-use Rattle.table.proofs.CompletionAgrees.{complete-agrees}
+use Rattle.places.proofs.Tidying.{whole-lasts}
+use Rattle.places.proofs.Lasting.{report-lasts, complete-lasts}
+use Rattle.places.proofs.TidyViews.{whole-kept}
+use Rattle.places.proofs.ReportAgrees.{report-agrees}
+use Rattle.places.proofs.CompletionAgrees.{complete-agrees}
 use Rattle.round.proofs.Refusing.{shut-is}
 
 -- a whole table, well kept, with no report open: what a round starts from and what each turn leaves

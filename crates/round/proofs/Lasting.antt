@@ -9,16 +9,16 @@ use Prim.Native.Nat.{ℕ, _+_}
 use lib.ListN.{set}
 use Rattle.refusal.specs.declared.Refusal.{Refusal}
 use Rattle.subscription.specs.declared.Settings.{Settings}
-use Rattle.table.specs.declared.Table.{Table}
-use Rattle.table.specs.declared.HandOut.{HandOut}
-use Rattle.table.specs.declared.HandOut.the-variants as handOut
-use Rattle.table.specs.Tidiness.{Lasting}
-use Rattle.table.specs.Views.{refusalAt}
-use Rattle.table.specs.Calls.{settledBy, reportIn}
+use Rattle.places.specs.declared.Table.{Table}
+use Rattle.places.specs.declared.HandOut.{HandOut}
+use Rattle.places.specs.declared.HandOut.the-variants as handOut
+use Rattle.places.specs.Tidiness.{Lasting}
+use Rattle.places.specs.Views.{refusalAt}
+use Rattle.places.specs.Calls.{settledBy, reportIn}
 use Rattle.round.specs.Rounds.{turnAfter, turnOf, served, made, notRounded, roundOf}
 use Rattle.rules.specs.Calls as call
 use Rattle.lists.proofs.Bools.{split}
-use Rattle.table.proofs.Lasting.{report-lasts, complete-lasts}
+use Rattle.places.proofs.Lasting.{report-lasts, complete-lasts}
 
 module _ {P : Table → Type 0} (lasting : Lasting P) where
   turned-lasts : (a : HandOut) (t : Table) (o : ℕ) → P t → P (turnAfter a t o .table)

@@ -12,22 +12,22 @@ use Rattle.lists.specs.Search.{some}
 use Rattle.refusal.specs.declared.Refusal.{Refusal}
 use Rattle.refusal.specs.declared.Refusal.the-variants.{BadArgument, ReportOpen}
 use Rattle.subscription.specs.declared.Settings.{Settings}
-use Rattle.table.specs.declared.Table.{Table}
-use Rattle.table.specs.declared.HandOut.{HandOut}
-use Rattle.table.specs.declared.HandOut.the-variants as handOut
+use Rattle.places.specs.declared.Table.{Table}
+use Rattle.places.specs.declared.HandOut.{HandOut}
+use Rattle.places.specs.declared.HandOut.the-variants as handOut
 use Rattle.rules.specs.States.{reportOpen}
 use Rattle.rules.specs.Machine.{badOutcome, firstOf}
 use Rattle.rules.specs.Numbers.{refusalOf}
-use Rattle.table.specs.Views.{view, kept, refusalAt}
-use Rattle.table.specs.Calls.{reportIn}
-use Rattle.table.specs.Agreement.{handOutAnswer}
+use Rattle.places.specs.Views.{view, kept, refusalAt}
+use Rattle.places.specs.Calls.{reportIn}
+use Rattle.places.specs.Agreement.{handOutAnswer}
 use Rattle.round.specs.Rounds.{badSlices, refuses, isShut}
 use Rattle.rules.specs.Calls as call
 use Rattle.lists.proofs.Bools.{split, or-neither}
 use Rattle.rules.proofs.Clauses.{first-holds, first-passed, first-none, report-objects, round-objects, refusal-kept}
 use Rattle.rules.proofs.Refusals.{same-refusal}
-use Rattle.table.proofs.Refusing.{state-kept, past-kept}
-use Rattle.table.proofs.ReportAgrees.{report-agrees}
+use Rattle.places.proofs.Refusing.{state-kept, past-kept}
+use Rattle.places.proofs.ReportAgrees.{report-agrees}
 
 present : Option Refusal → Bool
 present none = false

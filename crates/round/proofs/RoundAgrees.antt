@@ -7,11 +7,11 @@ use mathlib.Core.Option.{none}
 use Prim.Native.Nat.{ℕ}
 use lib.ListN.{length}
 use Rattle.subscription.specs.declared.Settings.{Settings}
-use Rattle.table.specs.declared.Table.{Table}
+use Rattle.places.specs.declared.Table.{Table}
 use Rattle.lists.specs.Search.{some}
 use Rattle.rules.specs.Machine.{badOutcome, firstOf, outcome, ready, act, step}
-use Rattle.table.specs.Views.{view, kept, refusalAt}
-use Rattle.table.specs.Tidiness.{Whole}
+use Rattle.places.specs.Views.{view, kept, refusalAt}
+use Rattle.places.specs.Tidiness.{Whole}
 use Rattle.round.specs.Rounds.{notRounded, isSilent, served, made, roundOf}
 use Rattle.round.specs.Agreement.{roundSays}
 use Rattle.rules.specs.Calls as call
@@ -19,8 +19,8 @@ use Rattle.lists.proofs.Bools.{split, or-neither}
 use Rattle.rules.proofs.Acts.{act-round, roundEnds}
 use Rattle.rules.proofs.Clauses.{round-objects}
 use Rattle.rules.proofs.Objections.{unobjected}
-use Rattle.table.proofs.Agreeing.{agreeing}
-use Rattle.table.proofs.Refusing.{state-kept, kept-counts, past-kept}
+use Rattle.places.proofs.Agreeing.{agreeing}
+use Rattle.places.proofs.Refusing.{state-kept, kept-counts, past-kept}
 use Rattle.round.proofs.Agreeing.{Fine, Ends, standOf, still-silent, not-silent, serve-agrees}
 
 -- "whether nothing stored is reportable then"

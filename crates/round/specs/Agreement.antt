@@ -7,7 +7,7 @@ use Rattle.round.specs.declared.Rounding.{Rounding}
 use Rattle.round.specs.declared.Rounding.the-variants as rounding
 use Rattle.rules.specs.Calls.{Answer}
 use Rattle.rules.specs.Machine.{Outcome, outcome}
-use Rattle.table.specs.Views.{view}
+use Rattle.places.specs.Views.{view}
 use Rattle.rules.specs.Calls as call
 
 -- the ids after it are part of the machine's answer

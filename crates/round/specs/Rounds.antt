@@ -9,15 +9,15 @@ use lib.ListN.{length, set}
 use Rattle.lists.specs.Search.{some}
 use Rattle.refusal.specs.declared.Refusal.{Refusal}
 use Rattle.subscription.specs.declared.Settings.{Settings}
-use Rattle.table.specs.declared.Table.{Table}
-use Rattle.table.specs.declared.HandOut.{HandOut}
-use Rattle.table.specs.declared.HandOut.the-variants as handOut
+use Rattle.places.specs.declared.Table.{Table}
+use Rattle.places.specs.declared.HandOut.{HandOut}
+use Rattle.places.specs.declared.HandOut.the-variants as handOut
 use Rattle.round.specs.declared.Rounded.{Rounded}
 use Rattle.round.specs.declared.Served.{Served}
 use Rattle.round.specs.declared.Turn.{Turn}
 use Rattle.round.specs.declared.Rounding.the-variants as rounding
-use Rattle.table.specs.Views.{refusalAt}
-use Rattle.table.specs.Calls.{settledBy, reportIn, completeIn}
+use Rattle.places.specs.Views.{refusalAt}
+use Rattle.places.specs.Calls.{settledBy, reportIn, completeIn}
 use Rattle.rules.specs.Machine.{badOutcome}
 use Rattle.rules.specs.Calls as call
 

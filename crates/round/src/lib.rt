@@ -5,11 +5,11 @@ ghost use lib.ListN.{length};
 ghost use Rattle.lists.specs.Search.{some};
 ghost use Rattle.rules.specs.Machine.{badOutcome};
 ghost use Rattle.round.specs.Rounds.{badSlices, isShut, isSilent, noTurn, turnOf, served, notRounded, roundOf};
+use places::HandOut;
+use places::Table;
 use refusal::Refusal;
 use subscription::ABANDONED;
 use subscription::Settings;
-use table::HandOut;
-use table::Table;
 
 // What a round is told: how many were handed out, and whether nothing stored is reportable then.
 pub struct Ending {
@@ -44,7 +44,7 @@ pub struct Served {
 pub fn round(table: Table, at: Settings, outcomes: &[u8], ids: &mut [u32]) -> Rounded
     ensures { λ r. ⌜ (r, now (ids .exit)) ≡ roundOf table at (now (outcomes .entry)) (now (ids .entry)) ⌝ }
 {
-    if !table.is_kept() {
+    if !table::is_kept(table) {
         return not_rounded(table, Refusal::NotWellKept);
     }
     if are_bad(outcomes, ids.len()) {
@@ -100,7 +100,7 @@ fn has_bad(outcomes: &[u8]) -> bool
 fn is_shut(table: Table, at: Settings) -> bool
     ensures { λ r. ⌜ r ≡ isShut table at ⌝ }
 {
-    let tried = table.report(at);
+    let tried = table::report(table, at);
     let answer = tried.answer;
     match answer {
         HandOut::To(_) => false,
@@ -113,7 +113,7 @@ fn is_shut(table: Table, at: Settings) -> bool
 fn is_silent(table: Table, at: Settings) -> bool
     ensures { λ r. ⌜ r ≡ isSilent table at ⌝ }
 {
-    let tried = table.report(at);
+    let tried = table::report(table, at);
     let answer = tried.answer;
     match answer {
         HandOut::To(_) => false,
@@ -126,12 +126,12 @@ fn is_silent(table: Table, at: Settings) -> bool
 fn take_turn(table: Table, at: Settings, outcome: u8) -> Turn
     ensures { λ r. ⌜ r ≡ turnOf table at outcome ⌝ }
 {
-    let tried = table.report(at);
+    let tried = table::report(table, at);
     let answer = tried.answer;
     let open = tried.table;
     match answer {
         HandOut::To(x) => {
-            let ended = open.complete(x.id, outcome);
+            let ended = table::complete(open, x.id, outcome);
             let after = ended.table;
             Turn {
                 made: true,

@@ -2,16 +2,16 @@
 // hand-out, its instant and whom it goes to, as the compiled code does it. That they stand after four as they stood before, so that it goes
 // on, is proved in crate rules.
 use libc::STDOUT_FILENO;
+use places::HandOut;
+use places::Table;
 use subscription::Request;
 use subscription::SENT;
 use subscription::Settings;
-use table::HandOut;
-use table::Table;
 use time::Instant;
 use time::KeepAlive;
 
 fn main() {
-    let mut t = stored(stored(stored(Table::new(80).table, 1), 2), 3);
+    let mut t = stored(stored(stored(table::new(80).table, 1), 2), 3);
     for i in 2..10u64 {
         t = turn(t, i * 1000);
     }
@@ -26,10 +26,8 @@ fn stored(t: Table, id: u32) -> Table {
         rx: 0,
         fabric: 1,
     };
-    t.add(request, 0, Instant::at(1000))
-        .table
-        .complete(id, SENT)
-        .table
+    let open = table::add(t, request, 0, Instant::at(1000)).table;
+    table::complete(open, id, SENT).table
 }
 
 // The fridge warms up, and whoever comes first is told.
@@ -40,13 +38,13 @@ fn turn(t: Table, ms: u64) -> Table {
         kind: KeepAlive::Default,
         all: false,
     };
-    let reported = t.note(3, 6, 0).table.report(at);
+    let reported = table::report(table::note(t, 3, 6, 0).table, at);
     io::print_decimal(STDOUT_FILENO, ms);
     let answer = reported.answer;
     match answer {
         HandOut::To(x) => {
             name(x.id);
-            reported.table.complete(x.id, SENT).table
+            table::complete(reported.table, x.id, SENT).table
         }
         HandOut::Nothing => {
             word(b" nothing\n");

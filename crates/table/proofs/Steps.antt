@@ -11,12 +11,13 @@ use lib.Dec.{leb, ltb, eqb}
 use lib.ListN.{length, take, drop, getD, set, length-append, length-drop, length-set, List·getD-append}
 use lib.Seq.{length-take-le, take-suc, take-suc-set, drop-cons, getD-take, getD-drop, getD-append-add, take-all, drop-length}
 use Rattle.subscription.specs.declared.Subscription.{Subscription}
-use Rattle.table.specs.declared.Lives.{Lives}
-use Rattle.table.specs.declared.Table.{Table}
+use Rattle.table.specs.declared.keeping.Pass.{Pass}
+use Rattle.places.specs.declared.Table.{Table}
 use Rattle.lists.specs.Search.{one, first, some, count, distinct, leastBy}
 use Rattle.subscription.specs.Life.{blank}
 use Rattle.rules.specs.States.{isReport, fabricZero}
-use Rattle.table.specs.Views.{storedOf, opensOf, placeOf, Lived}
+use Rattle.places.specs.Views.{storedOf, opensOf, placeOf}
+use Rattle.table.specs.Scans.{Lived}
 use Rattle.lists.proofs.Bools.{split}
 use Rattle.lists.proofs.Searches.{first-some}
 use Rattle.lists.proofs.Orders.{count-cons}
@@ -97,7 +98,7 @@ module _ (stored opens : List Subscription) where
       (λ t. let past = leb-true (length stored) i t in
       let at : i ≡ length stored + (i - length stored) = omega arith in
       let here : getD opens (i - length stored) blank ≡ x =
-          sym (getD-append-add stored opens (i - length stored) blank) ∙ ap (λ k. getD both k blank) (sym at) ∙ e in
+      sym (getD-append-add stored opens (i - length stored) blank) ∙ ap (λ k. getD both k blank) (sym at) ∙ e in
       let next : i + 1 - length stored ≡ i - length stored + 1 = omega arith in
       p
       ∙ rw (drop-next opens (i - length stored) blank (omega arith), here, count-cons isReport x (drop (i - length stored + 1) opens), f, t, next)
@@ -123,7 +124,7 @@ module _ (stored opens : List Subscription) where
         reports-are = reports-step reports i x (p .reports-are) h e g;
       }
 
-  pub pass-end : {r : Lives} {i : ℕ} → Passing stored opens (r .ids) (r .orphan) (r .reports) i → i ≡ length both → Lived stored opens r
+  pub pass-end : {r : Pass} {i : ℕ} → Passing stored opens (r .ids) (r .orphan) (r .reports) i → i ≡ length both → Lived stored opens r
   unfolding some count
   pass-end {r} p e =
       let all : length both - length stored ≡ length opens = omega (arith, length-append stored opens) in
@@ -133,20 +134,3 @@ module _ (stored opens : List Subscription) where
         orphan-is = sym (p .orphan-is ∙ rw (e, drop-length both) (or-false (r .orphan)));
         reports-are = sym (p .reports-are ∙ rw (e, all, drop-length opens) (omega arith));
       }
-
--- the place that a scan of the open ones finds is one of the eighty exactly where there is one
-pub open-there : (t : Table) → length (t .places) ≡ 80 → t .opens ≤ 80 → (p : Subscription → Bool) {i : ℕ}
-    → i ≡ 80 - t .opens + first p (opensOf t) → ltb i 80 ≡ some p (opensOf t)
-open-there t long fits p {i} e =
-    let size : length (opensOf t) ≡ t .opens = length-drop (80 - t .opens) (t .places) ∙ (omega arith) in
-    split (ltb (first p (opensOf t)) (length (opensOf t)))
-    (λ u. lt-ltb i 80 (let w = ltb-true (first p (opensOf t)) (length (opensOf t)) u in omega arith) ∙ sym u ∙ first-some p (opensOf t))
-    (λ u. le-ltb i 80 (let w = ltb-false (first p (opensOf t)) (length (opensOf t)) u in omega arith) ∙ sym u ∙ first-some p (opensOf t))
-
--- and the place that a scan of the stored ones finds is one of theirs exactly where there is one
-pub stored-there : (t : Table) → length (t .places) ≡ 80 → t .stored ≤ 80 → (p : Subscription → Bool) {i : ℕ}
-    → i ≡ first p (storedOf t) → ltb i (t .stored) ≡ some p (storedOf t)
-stored-there t long fits p e =
-    ap (λ n. ltb n (t .stored)) e
-    ∙ ap (λ n. ltb (first p (storedOf t)) n) (sym (length-take-le (t .stored) (t .places) (omega arith)))
-    ∙ first-some p (storedOf t)

@@ -9,9 +9,9 @@ use native.Mathlib.Numerals.{add-one}
 use lib.ListN.{length, drop, getD, set, replicate, length-replicate, replicate-append-replicate}
 use lib.Seq.{drop-cons, set-at}
 use Rattle.subscription.specs.declared.Subscription.{Subscription}
-use Rattle.table.specs.declared.Table.{Table}
+use Rattle.places.specs.declared.Table.{Table}
 use Rattle.subscription.specs.Life.{blank}
-use Rattle.table.specs.Moves.{withPlaces, swapped, sweptFrom, sweptOut, emptied}
+use Rattle.places.specs.Moves.{withPlaces, swapped, sweptFrom, sweptOut, emptied}
 
 -- a table that differs from another in its places alone
 abbrev pub SameBut : Table → Table → Type 0

@@ -1,26 +1,67 @@
-// The table of subscriptions: document 01, "Table". Eighty places in one array: the stored ones in front, in their order, the open ones at
-// the far end, the newest first. Every call tests the whole state and refuses 7 exactly where it isn't well kept, then document 01's other
-// numbers in their order; a refusal hands back the table as it was. The refusals are those of the machine of crate rules; what a call does
-// is said place by place in specs/.
+// The table of subscriptions: document 01, "Table". Every call tests the whole state and refuses 7 exactly where it isn't well kept, then
+// document 01's other numbers in their order; a refusal hands back the table as it was. How a table lies in memory, what a call is told and
+// what it does to the table is crate places' matter.
+//
+// A function that indexes the table hands it to nobody, and one that hands it on indexes nothing: so it is copied once for each.
+mod admission;
+mod keeping;
+mod moves;
+mod scans;
+
 ghost use mathlib.Core.Path.{_≡_};
-ghost use mathlib.Core.Bool.{true, cond, not, _&&_, _||_};
-ghost use Prim.Native.Nat.{_+_, _-_, _^_, _≤_, _<_, min};
-ghost use lib.Dec.{leb, ltb, eqb};
-ghost use lib.ListN.{getD};
-ghost use Rattle.lists.specs.Search.{one, some, count, first, leastBy};
-ghost use Rattle.rules.specs.States.{capacityFits, hasId};
-ghost use Rattle.rules.specs.Machine.{firstOf, nextIdAfter, badReason};
-ghost use Rattle.subscription.specs.Choices.{chosen};
-ghost use Rattle.subscription.specs.Life.{blank};
-ghost use Rattle.changes.specs.Logs.{kept as logKept, watermarkOf};
-ghost use Rattle.table.specs.Views.{freshTable, storedOf, opensOf, placeOf, Lived, kept};
-ghost use Rattle.table.specs.Tests.{ofFabric, served, struck, passes, measured};
-ghost use Rattle.table.specs.Moves.{withNextId, withReason, withLog, storedLast, openedUp, sweptOut, emptied};
-ghost use Rattle.table.specs.Calls.{newTable, admitObjections, asVerdict, notAdmitted, addTo, resumeIn, notCompleted, staysAfter, endedAt, completeIn, attributeAt, sendAt, notWoken, cancelsIn, removeIn, clearIn, purgedTable, purgeIn, noteIn, notReported, handedOut, handOutIn, reportIn, anyAt, nextAt, aliveAt, loadOf, hasAt};
+ghost use mathlib.Core.Bool.{true, cond};
+ghost use Prim.Native.Nat.{_+_, _-_, _≤_};
+ghost use lib.Dec.{eqb};
+ghost use Rattle.lists.specs.Search.{count};
+ghost use Rattle.rules.specs.Machine.{badReason};
+ghost use Rattle.changes.specs.Logs.{kept as logKept};
+ghost use Rattle.places.specs.Views.{freshTable, storedOf, kept};
+ghost use Rattle.places.specs.Tests.{ofFabric};
+ghost use Rattle.places.specs.Calls.{newTable, notAdmitted, addTo, resumeIn, notCompleted, completeIn, attributeAt, sendAt, notWoken, cancelsIn, removeIn, clearIn, purgedTable, purgeIn, noteIn, notReported, handOutIn, reportIn, anyAt, nextAt, aliveAt, loadOf, hasAt};
+use admission::Verdict;
+use admission::admits;
+use admission::next_id;
 use answers::Change;
 use answers::Told;
 use changes::ChangedAttrs;
+use keeping::cancel_fits;
+use keeping::either;
+use keeping::lives;
+use keeping::within;
+use moves::emptied;
+use moves::ended;
+use moves::handed;
+use moves::opened_up;
+use moves::stored_last;
+use moves::swept;
+use moves::with_cancel;
+use moves::with_log;
+use moves::with_next;
+use places::Admission;
+use places::Admitted;
+use places::Alive;
+use places::Completed;
+use places::Completion;
+use places::HandOut;
+use places::Heard;
+use places::Hearing;
+use places::Load;
+use places::Loaded;
+use places::Moment;
+use places::Reported;
+use places::Settled;
+use places::Table;
+use places::TableNoted;
+use places::Waking;
+use places::Woken;
 use refusal::Refusal;
+use scans::Measure;
+use scans::Test;
+use scans::count_stored;
+use scans::find_open;
+use scans::find_stored;
+use scans::least_stored;
+use scans::one_at;
 use subscription::ABANDONED;
 use subscription::Choice;
 use subscription::Request;
@@ -30,937 +71,318 @@ use time::Instant;
 use time::KeepAlive;
 
 // How many places there are.
-const PLACES: usize = 80;
+pub(crate) const PLACES: usize = 80;
 
 // The reason with which clearing cancels the open report.
 const CLEARED: u8 = 255;
 
-pub struct Table {
-    // The stored ones are the first `stored`, the open ones the last `opens`; a place between them is blank.
-    pub places: [Subscription; 80],
-    pub log: ChangedAttrs,
-    pub stored: usize,
-    pub opens: usize,
-    // The id that the next admission takes.
-    pub next: u32,
-    pub capacity: u8,
-    // The reason with which the open report was cancelled, 0 for none.
-    pub cancel: u8,
-}
-
-// The answer of a call that has nothing to tell, and the table after it.
-pub struct Settled {
-    pub answer: Change,
-    pub table: Table,
-}
-
-pub enum Admission {
-    Id(u32),
-    Refused(Refusal),
-}
-
-pub struct Admitted {
-    pub answer: Admission,
-    pub table: Table,
-}
-
-// What a completion is told: whether the subscription is stored again, and whether its subscriber has gone quiet.
-pub struct Ended {
-    pub kept: bool,
-    pub failed: bool,
-}
-
-pub enum Completion {
-    Ended(Ended),
-    Refused(Refusal),
-}
-
-pub struct Completed {
-    pub answer: Completion,
-    pub table: Table,
-}
-
-// Whether a call is refused, and why.
-pub enum Verdict {
-    Clear,
-    Refuse(Refusal),
-}
-
-// What a note is told: its identity, and that it wakes whoever waits.
-pub struct Heard {
-    pub identity: u64,
-    pub wakes: bool,
-}
-
-pub enum Hearing {
-    Entered(Heard),
-    Refused(Refusal),
-}
-
-pub struct TableNoted {
-    pub answer: Hearing,
-    pub table: Table,
-}
-
-// What a hand-out is told: the id and the number of its request bytes.
-pub struct Handed {
-    pub id: u32,
-    pub rx: u16,
-}
-
-pub enum HandOut {
-    To(Handed),
-    Nothing,
-    Refused(Refusal),
-}
-
-pub struct Reported {
-    pub answer: HandOut,
-    pub table: Table,
-}
-
-pub enum Waking {
-    Wakes(bool),
-    Refused(Refusal),
-}
-
-pub struct Woken {
-    pub answer: Waking,
-    pub table: Table,
-}
-
-pub enum Moment {
-    At(Instant),
-    Refused(Refusal),
-}
-
-pub enum Alive {
-    At(Instant),
-    Never,
-    Refused(Refusal),
-}
-
-// Counted places, the stored of a fabric, and the ids given so far.
-pub struct Load {
-    pub places: usize,
-    pub fabric: usize,
-    pub established: u32,
-}
-
-pub enum Loaded {
-    Is(Load),
-    Refused(Refusal),
-}
-
-impl Table {
-    // A fresh table. A capacity that is none makes a table that every call refuses.
-    pub fn new(capacity: u8) -> Settled
-        ensures { λ r. ⌜ r ≡ newTable capacity ⌝ }
-    {
-        if within(capacity, 0, 0) {
-            return Settled {
-                answer: Change::Done,
-                table: fresh(capacity),
-            };
-        }
-        Settled {
-            answer: Change::Refused(Refusal::BadArgument),
-            table: fresh(0),
-        }
-    }
-
-    // A subscriber is admitted: it takes the next id, and its priming opens.
-    pub fn add(self, request: Request, events: u64, now: Instant) -> Admitted
-        ensures { λ r. ⌜ r ≡ addTo self request events now ⌝ }
-    {
-        if !self.is_kept() {
-            return self.not_admitted(Refusal::NotWellKept);
-        }
-        match self.admits(request, self.next) {
-            Verdict::Refuse(why) => self.not_admitted(why),
-            Verdict::Clear => {
-                let log = self.log;
-                let id = self.next;
-                let mark = log.watermark().value();
-                let x = Subscription::primed(request, id, mark, events, now);
-                Admitted {
-                    answer: Admission::Id(id),
-                    table: self.opened_up(x).with_next(next_id(id, id)),
-                }
-            }
-        }
-    }
-
-    // A subscriber that a restart brings back is stored under the id that it knows.
-    pub fn resume(self, id: u32, request: Request, events: u64) -> Admitted
-        ensures { λ r. ⌜ r ≡ resumeIn self id request events ⌝ }
-    {
-        if !self.is_kept() {
-            return self.not_admitted(Refusal::NotWellKept);
-        }
-        match self.admits(request, id) {
-            Verdict::Refuse(why) => self.not_admitted(why),
-            Verdict::Clear => {
-                let log = self.log;
-                let mark = log.watermark().value();
-                let x = Subscription::resumed(request, id, mark, events);
-                Admitted {
-                    answer: Admission::Id(id),
-                    table: self.stored_last(x).with_next(next_id(self.next, id)),
-                }
-            }
-        }
-    }
-
-    // The open report or priming with the id ends with the outcome.
-    pub fn complete(self, id: u32, outcome: u8) -> Completed
-        ensures { λ r. ⌜ r ≡ completeIn self id outcome ⌝ }
-    {
-        if !self.is_kept() {
-            return self.not_completed(Refusal::NotWellKept);
-        }
-        if ABANDONED < outcome {
-            return self.not_completed(Refusal::BadArgument);
-        }
-        let at = self.find_open(Test::Id(id));
-        if 80 <= at {
-            return self.not_completed(Refusal::NotOpen);
-        }
-        self.ended(at, outcome)
-    }
-
-    // The stored ones that the choice takes go, and the open report is cancelled if it is among them. Primings stay.
-    pub fn remove(self, choice: Choice, reason: u8) -> Woken
-        ensures { λ r. ⌜ r ≡ removeIn self choice reason ⌝ }
-    {
-        if !self.is_kept() {
-            return self.not_woken(Refusal::NotWellKept);
-        }
-        if is_bad_reason(reason) {
-            return self.not_woken(Refusal::BadArgument);
-        }
-        let cancels = self.cancels(choice);
-        let wakes = either(
-            self.find_stored(Test::Chosen(choice)) < self.stored,
-            cancels,
-        );
-        Woken {
-            answer: Waking::Wakes(wakes),
-            table: self.swept(choice)
-                .with_cancel(reason_after(cancels, reason, self.cancel)),
-        }
-    }
-
-    // Every stored one goes, and the open report is cancelled. It does not wake.
-    pub fn clear(self) -> Woken
-        ensures { λ r. ⌜ r ≡ clearIn self ⌝ }
-    {
-        if !self.is_kept() {
-            return self.not_woken(Refusal::NotWellKept);
-        }
-        if self.find_open(Test::Priming) < 80 {
-            return self.not_woken(Refusal::PrimingOpen);
-        }
-        let cancels = self.find_open(Test::Report) < 80;
-        Woken {
-            answer: Waking::Wakes(false),
-            table: self.emptied()
-                .with_cancel(reason_after(cancels, CLEARED, self.cancel)),
-        }
-    }
-
-    // Entries of the log that every stored one has seen go, unless something is open.
-    pub fn purge_reported_changes(self) -> Settled
-        ensures { λ r. ⌜ r ≡ purgeIn self ⌝ }
-    {
-        if !self.is_kept() {
-            return Settled {
-                answer: Change::Refused(Refusal::NotWellKept),
-                table: self,
-            };
-        }
-        Settled {
+// A fresh table. A capacity that is none makes a table that every call refuses.
+pub fn new(capacity: u8) -> Settled
+    ensures { λ r. ⌜ r ≡ newTable capacity ⌝ }
+{
+    if within(capacity, 0, 0) {
+        return Settled {
             answer: Change::Done,
-            table: self.purged(),
-        }
-    }
-
-    // Whether the open report or priming with the id tells of the attribute.
-    pub fn should_report_attr(self, id: u32, endpoint: u16, cluster: u32, attr: u32) -> Told
-        ensures { λ r. ⌜ r ≡ attributeAt self id endpoint cluster attr ⌝ }
-    {
-        if !self.is_kept() {
-            return Told::Refused(Refusal::NotWellKept);
-        }
-        let at = self.find_open(Test::Id(id));
-        if 80 <= at {
-            return Told::Refused(Refusal::NotOpen);
-        }
-        let x = self.at(at);
-        let reported = x.reported;
-        if reported.is_never() {
-            return Told::Is(true);
-        }
-        let log = self.log;
-        log.contains_since(endpoint, cluster, attr, x.seen)
-    }
-
-    // Whether the open report or priming with the id is sent though it has nothing to tell.
-    pub fn should_send_if_empty(self, id: u32, kind: KeepAlive) -> Told
-        ensures { λ r. ⌜ r ≡ sendAt self id kind ⌝ }
-    {
-        if !self.is_kept() {
-            return Told::Refused(Refusal::NotWellKept);
-        }
-        let at = self.find_open(Test::Id(id));
-        if 80 <= at {
-            return Told::Refused(Refusal::NotOpen);
-        }
-        let x = self.at(at);
-        let opened = x.opened;
-        Told::Is(x.is_report_due(opened, kind))
-    }
-
-    // A path has changed.
-    pub fn note(self, endpoint: u16, cluster: u32, attr: u32) -> TableNoted
-        ensures { λ r. ⌜ r ≡ noteIn self endpoint cluster attr ⌝ }
-    {
-        if !self.is_kept() {
-            return TableNoted {
-                answer: Hearing::Refused(Refusal::NotWellKept),
-                table: self,
-            };
-        }
-        let log = self.log;
-        let identity = log.next;
-        let noted = log.note(endpoint, cluster, attr);
-        let after = noted.log;
-        TableNoted {
-            answer: Hearing::Entered(Heard {
-                identity: identity,
-                wakes: true,
-            }),
-            table: self.with_log(after),
-        }
-    }
-
-    // The first stored one that is reportable is handed out.
-    pub fn report(self, at: Settings) -> Reported
-        ensures { λ r. ⌜ r ≡ reportIn self at ⌝ }
-    {
-        if !self.is_kept() {
-            return self.not_reported(Refusal::NotWellKept);
-        }
-        if self.find_open(Test::Report) < 80 {
-            return self.not_reported(Refusal::ReportOpen);
-        }
-        self.hand_out(at)
-    }
-
-    // The earliest instant at which a stored one could report.
-    pub fn next_report_at(self, events: u64, kind: KeepAlive) -> Moment
-        ensures { λ r. ⌜ r ≡ nextAt self events kind ⌝ }
-    {
-        if !self.is_kept() {
-            return Moment::Refused(Refusal::NotWellKept);
-        }
-        let log = self.log;
-        let newest = log.newest().value();
-        let last = Instant::LAST;
-        let at = Settings {
-            now: last,
-            events: events,
-            kind: kind,
-            all: false,
+            table: fresh(capacity),
         };
-        Moment::At(Instant {
-            ms: self.least_stored(Measure::Next(at, newest), last.ms),
-        })
     }
+    Settled {
+        answer: Change::Refused(Refusal::BadArgument),
+        table: fresh(0),
+    }
+}
 
-    // Whether a stored one is reportable now.
-    pub fn any_reportable(self, now: Instant, events: u64, kind: KeepAlive) -> Told
-        ensures { λ r. ⌜ r ≡ anyAt self now events kind ⌝ }
-    {
-        if !self.is_kept() {
-            return Told::Refused(Refusal::NotWellKept);
+// A subscriber is admitted: it takes the next id, and its priming opens.
+pub fn add(table: Table, request: Request, events: u64, now: Instant) -> Admitted
+    ensures { λ r. ⌜ r ≡ addTo table request events now ⌝ }
+{
+    if !is_kept(table) {
+        return not_admitted(table, Refusal::NotWellKept);
+    }
+    match admits(table, request, table.next) {
+        Verdict::Refuse(why) => not_admitted(table, why),
+        Verdict::Clear => {
+            let log = table.log;
+            let id = table.next;
+            let mark = log.watermark().value();
+            let x = Subscription::primed(request, id, mark, events, now);
+            Admitted {
+                answer: Admission::Id(id),
+                table: with_next(opened_up(table, x), next_id(id, id)),
+            }
         }
-        let log = self.log;
-        let newest = log.newest().value();
-        let at = Settings {
-            now: now,
-            events: events,
-            kind: kind,
-            all: false,
+    }
+}
+
+// A subscriber that a restart brings back is stored under the id that it knows.
+pub fn resume(table: Table, id: u32, request: Request, events: u64) -> Admitted
+    ensures { λ r. ⌜ r ≡ resumeIn table id request events ⌝ }
+{
+    if !is_kept(table) {
+        return not_admitted(table, Refusal::NotWellKept);
+    }
+    match admits(table, request, id) {
+        Verdict::Refuse(why) => not_admitted(table, why),
+        Verdict::Clear => {
+            let log = table.log;
+            let mark = log.watermark().value();
+            let x = Subscription::resumed(request, id, mark, events);
+            Admitted {
+                answer: Admission::Id(id),
+                table: with_next(stored_last(table, x), next_id(table.next, id)),
+            }
+        }
+    }
+}
+
+// The open report or priming with the id ends with the outcome.
+pub fn complete(table: Table, id: u32, outcome: u8) -> Completed
+    ensures { λ r. ⌜ r ≡ completeIn table id outcome ⌝ }
+{
+    if !is_kept(table) {
+        return not_completed(table, Refusal::NotWellKept);
+    }
+    if ABANDONED < outcome {
+        return not_completed(table, Refusal::BadArgument);
+    }
+    let at = find_open(table, Test::Id(id));
+    if 80 <= at {
+        return not_completed(table, Refusal::NotOpen);
+    }
+    ended(table, at, outcome)
+}
+
+// The stored ones that the choice takes go, and the open report is cancelled if it is among them. Primings stay.
+pub fn remove(table: Table, choice: Choice, reason: u8) -> Woken
+    ensures { λ r. ⌜ r ≡ removeIn table choice reason ⌝ }
+{
+    if !is_kept(table) {
+        return not_woken(table, Refusal::NotWellKept);
+    }
+    if is_bad_reason(reason) {
+        return not_woken(table, Refusal::BadArgument);
+    }
+    let cancels = cancels(table, choice);
+    let wakes = either(
+        find_stored(table, Test::Chosen(choice)) < table.stored,
+        cancels,
+    );
+    Woken {
+        answer: Waking::Wakes(wakes),
+        table: with_cancel(
+            swept(table, choice),
+            reason_after(cancels, reason, table.cancel),
+        ),
+    }
+}
+
+// Every stored one goes, and the open report is cancelled. It does not wake.
+pub fn clear(table: Table) -> Woken
+    ensures { λ r. ⌜ r ≡ clearIn table ⌝ }
+{
+    if !is_kept(table) {
+        return not_woken(table, Refusal::NotWellKept);
+    }
+    if find_open(table, Test::Priming) < 80 {
+        return not_woken(table, Refusal::PrimingOpen);
+    }
+    let cancels = find_open(table, Test::Report) < 80;
+    Woken {
+        answer: Waking::Wakes(false),
+        table: with_cancel(emptied(table), reason_after(cancels, CLEARED, table.cancel)),
+    }
+}
+
+// Entries of the log that every stored one has seen go, unless something is open.
+pub fn purge_reported_changes(table: Table) -> Settled
+    ensures { λ r. ⌜ r ≡ purgeIn table ⌝ }
+{
+    if !is_kept(table) {
+        return Settled {
+            answer: Change::Refused(Refusal::NotWellKept),
+            table: table,
         };
-        Told::Is(self.find_stored(Test::Ready(at, newest)) < self.stored)
     }
-
-    // When an intermittently connected device wakes up for its subscriptions at the latest.
-    pub fn next_keep_alive_at(self) -> Alive
-        ensures { λ r. ⌜ r ≡ aliveAt self ⌝ }
-    {
-        if !self.is_kept() {
-            return Alive::Refused(Refusal::NotWellKept);
-        }
-        if self.stored == 0 {
-            return Alive::Never;
-        }
-        let last = Instant::LAST;
-        Alive::At(Instant {
-            ms: self.least_stored(Measure::Due, last.ms),
-        })
-    }
-
-    // Figures for the status page: counted places, the stored of a fabric (0 where none is asked), and the ids given so far.
-    pub fn load_stats(self, fabric: u8) -> Loaded
-        ensures { λ r. ⌜ r ≡ loadOf self fabric ⌝ }
-    {
-        if !self.is_kept() {
-            return Loaded::Refused(Refusal::NotWellKept);
-        }
-        Loaded::Is(Load {
-            places: self.stored + self.opens,
-            fabric: self.of_fabric(fabric),
-            established: less_one(self.next),
-        })
-    }
-
-    // Whether the peer has a subscription that is served: the last report to it did not fail.
-    pub fn has_subscription_for(self, fabric: u8, peer: u64) -> Told
-        ensures { λ r. ⌜ r ≡ hasAt self fabric peer ⌝ }
-    {
-        if !self.is_kept() {
-            return Told::Refused(Refusal::NotWellKept);
-        }
-        Told::Is(self.find_stored(Test::Served(fabric, peer)) < self.stored)
-    }
-
-    // Whether the table is well kept.
-    pub fn is_kept(self) -> bool
-        ensures { λ r. ⌜ r ≡ kept self ⌝ }
-    {
-        let stored = self.stored;
-        let opens = self.opens;
-        if !within(self.capacity, stored, opens) {
-            return false;
-        }
-        let log = self.log;
-        if !log.is_kept() {
-            return false;
-        }
-        let lives = self.lives();
-        if lives.orphan {
-            return false;
-        }
-        let ids = lives.ids;
-        let n = stored + opens;
-        if !distinct::all_differ(&ids[..n]) {
-            return false;
-        }
-        cancel_fits(lives.reports, self.cancel)
-    }
-
-    // The ids of the live ones, whether one has no fabric, and how many of the open ones are reports.
-    fn lives(self) -> Lives
-        requires { ⌜ self .stored + self .opens ≤ 80 ⌝ }
-        ensures { λ r. ⌜ Lived (storedOf self) (opensOf self) r ⌝ }
-    {
-        let stored = self.stored;
-        let n = stored + self.opens;
-        let gap = PLACES - n;
-        let mut ids = [0u32; 80];
-        let mut orphan = false;
-        let mut reports: usize = 0;
-        let mut i: usize = 0;
-        while i < n {
-            let at = place_of(i, stored, gap);
-            let x = self.places[at];
-            ids[i] = x.id;
-            orphan = either(orphan, x.fabric == 0);
-            reports += one_if_both(stored <= i, x.reporting);
-            i += 1;
-        }
-        Lives {
-            ids: ids,
-            orphan: orphan,
-            reports: reports,
-        }
-    }
-
-    // The place of the first stored one that passes the test, or the number of stored ones where none does.
-    fn find_stored(self, test: Test) -> usize
-        requires { ⌜ self .stored ≤ 80 ⌝ }
-        ensures { λ r. ⌜ r ≡ first (passes test) (storedOf self) ⌝ }
-    {
-        let n = self.stored;
-        let mut i: usize = 0;
-        while i < n {
-            let x = self.places[i];
-            if test.passes(x) {
-                return i;
-            }
-            i += 1;
-        }
-        i
-    }
-
-    // The place of the first open one that passes the test, or the number of places where none does.
-    fn find_open(self, test: Test) -> usize
-        requires { ⌜ self .opens ≤ 80 ⌝ }
-        ensures { λ r. ⌜ r ≡ 80 - self .opens + first (passes test) (opensOf self) ⌝ }
-    {
-        let mut i = PLACES - self.opens;
-        while i < 80 {
-            let x = self.places[i];
-            if test.passes(x) {
-                return i;
-            }
-            i += 1;
-        }
-        i
-    }
-
-    // The one at a place.
-    fn at(self, i: usize) -> Subscription
-        requires { ⌜ i < 80 ⌝ }
-        ensures { λ r. ⌜ r ≡ getD (self .places) i blank ⌝ }
-    {
-        self.places[i]
-    }
-
-    // How many stored ones pass the test.
-    fn count_stored(self, test: Test) -> usize
-        requires { ⌜ self .stored ≤ 80 ⌝ }
-        ensures { λ r. ⌜ r ≡ count (passes test) (storedOf self) ⌝ }
-    {
-        let n = self.stored;
-        let mut found: usize = 0;
-        let mut i: usize = 0;
-        while i < n {
-            let x = self.places[i];
-            i += 1;
-            if test.passes(x) {
-                found += 1;
-            }
-        }
-        found
-    }
-
-    // The least measure of the stored ones and a bound.
-    fn least_stored(self, measure: Measure, bound: u64) -> u64
-        requires { ⌜ self .stored ≤ 80 ⌝ }
-        ensures { λ r. ⌜ r ≡ leastBy (measured measure) bound (storedOf self) ⌝ }
-    {
-        let n = self.stored;
-        let mut least = bound;
-        let mut i: usize = 0;
-        while i < n {
-            let x = self.places[i];
-            i += 1;
-            least = lesser(least, measure.of(x));
-        }
-        least
-    }
-
-    fn not_reported(self, why: Refusal) -> Reported
-        ensures { λ r. ⌜ r ≡ notReported self why ⌝ }
-    {
-        Reported {
-            answer: HandOut::Refused(why),
-            table: self,
-        }
-    }
-
-    // The first stored one that is reportable opens its report.
-    fn hand_out(self, at: Settings) -> Reported
-        requires { ⌜ (self .stored + self .opens ≤ 80) × (logKept (self .log) ≡ true) ⌝ }
-        ensures { λ r. ⌜ r ≡ handOutIn self at ⌝ }
-    {
-        let log = self.log;
-        let newest = log.newest().value();
-        let i = self.find_stored(Test::Ready(at, newest));
-        if i < self.stored {
-            return self.handed(i, log.watermark().value(), at);
-        }
-        Reported {
-            answer: HandOut::Nothing,
-            table: self,
-        }
-    }
-
-    // The stored one at a place is handed out: the last stored one fills its place, and it opens at the far end.
-    fn handed(mut self, i: usize, mark: u64, at: Settings) -> Reported
-        requires { ⌜ (self .stored + self .opens ≤ 80) × ((i < self .stored) × (mark ≡ watermarkOf (self .log))) ⌝ }
-        ensures { λ r. ⌜ r ≡ handedOut self at i ⌝ }
-    {
-        let x = self.places[i];
-        let now = at.now;
-        let n = self.stored - 1;
-        let opens = self.opens;
-        let end = 79 - opens;
-        let last = self.places[n];
-        self.places[i] = last;
-        self.places[n] = Subscription::BLANK;
-        self.places[end] = x.handed_out(mark, at.events, now);
-        self.stored = n;
-        self.opens = opens + 1;
-        Reported {
-            answer: HandOut::To(Handed { id: x.id, rx: x.rx }),
-            table: self,
-        }
-    }
-
-    // One more is open.
-    fn opened_up(mut self, x: Subscription) -> Table
-        requires { ⌜ self .opens < 80 ⌝ }
-        ensures { λ r. ⌜ r ≡ openedUp self x ⌝ }
-    {
-        let opens = self.opens;
-        let at = 79 - opens;
-        self.places[at] = x;
-        self.opens = opens + 1;
-        self
-    }
-
-    fn not_woken(self, why: Refusal) -> Woken
-        ensures { λ r. ⌜ r ≡ notWoken self why ⌝ }
-    {
-        Woken {
-            answer: Waking::Refused(why),
-            table: self,
-        }
-    }
-
-    // Whether a removal cancels the open report: it is taken, and not cancelled yet.
-    fn cancels(self, choice: Choice) -> bool
-        requires { ⌜ self .opens ≤ 80 ⌝ }
-        ensures { λ r. ⌜ r ≡ cancelsIn self choice ⌝ }
-    {
-        if self.cancel == 0 {
-            return self.find_open(Test::Struck(choice)) < 80;
-        }
-        false
-    }
-
-    // The table without the stored ones that the choice takes: the last one fills each place and is looked at next.
-    fn swept(mut self, choice: Choice) -> Table
-        requires { ⌜ self .stored ≤ 80 ⌝ }
-        ensures { λ r. ⌜ r ≡ sweptOut (chosen choice) self ⌝ }
-    {
-        let mut n = self.stored;
-        let mut i: usize = 0;
-        while i < n {
-            let x = self.places[i];
-            if choice.takes(x) {
-                n -= 1;
-                let last = self.places[n];
-                self.places[i] = last;
-                self.places[n] = Subscription::BLANK;
-            } else {
-                i += 1;
-            }
-        }
-        self.stored = n;
-        self
-    }
-
-    // The table with nothing stored.
-    fn emptied(mut self) -> Table
-        requires { ⌜ self .stored ≤ 80 ⌝ }
-        ensures { λ r. ⌜ r ≡ emptied self ⌝ }
-    {
-        let n = self.stored;
-        let mut i: usize = 0;
-        while i < n {
-            self.places[i] = Subscription::BLANK;
-            i += 1;
-        }
-        self.stored = 0;
-        self
-    }
-
-    // The table without the entries that every stored one has seen.
-    fn purged(self) -> Table
-        requires { ⌜ self .stored ≤ 80 ⌝ }
-        ensures { λ r. ⌜ r ≡ purgedTable self ⌝ }
-    {
-        if 0 < self.opens {
-            return self;
-        }
-        let log = self.log;
-        if 0 < self.stored {
-            let first = self.places[0];
-            let after = log.purge_up_to(self.least_stored(Measure::Seen, first.seen));
-            let left = after.log;
-            return self.with_log(left);
-        }
-        let none = log.clear();
-        let left = none.log;
-        self.with_log(left)
-    }
-
-    fn with_log(mut self, log: ChangedAttrs) -> Table
-        ensures { λ r. ⌜ r ≡ withLog self log ⌝ }
-    {
-        self.log = log;
-        self
-    }
-
-    fn not_admitted(self, why: Refusal) -> Admitted
-        ensures { λ r. ⌜ r ≡ notAdmitted self why ⌝ }
-    {
-        Admitted {
-            answer: Admission::Refused(why),
-            table: self,
-        }
-    }
-
-    // Whether there is a place for the request, under the id.
-    fn admits(self, request: Request, id: u32) -> Verdict
-        requires { ⌜ self .stored + self .opens ≤ 80 ⌝ }
-        ensures { λ r. ⌜ r ≡ asVerdict (firstOf (admitObjections self request id)) ⌝ }
-    {
-        if request.fabric == 0 {
-            return Verdict::Refuse(Refusal::BadArgument);
-        }
-        let most = self.capacity as usize;
-        if most <= self.stored + self.opens {
-            return Verdict::Refuse(Refusal::Full);
-        }
-        if self.is_live(id) {
-            return Verdict::Refuse(Refusal::IdLive);
-        }
-        Verdict::Clear
-    }
-
-    fn is_live(self, id: u32) -> bool
-        requires { ⌜ self .stored + self .opens ≤ 80 ⌝ }
-        ensures { λ r. ⌜ r ≡ (some (hasId id) (storedOf self) || some (hasId id) (opensOf self)) ⌝ }
-    {
-        if self.find_stored(Test::Id(id)) < self.stored {
-            return true;
-        }
-        self.find_open(Test::Id(id)) < 80
-    }
-
-    fn not_completed(self, why: Refusal) -> Completed
-        ensures { λ r. ⌜ r ≡ notCompleted self why ⌝ }
-    {
-        Completed {
-            answer: Completion::Refused(why),
-            table: self,
-        }
-    }
-
-    // The open one at a place ends: the newest open one fills its place, and it is stored at the end where it stays.
-    fn ended(mut self, at: usize, outcome: u8) -> Completed
-        requires { ⌜ (self .stored + self .opens ≤ 80) × ((80 - self .opens ≤ at) × (at < 80)) ⌝ }
-        ensures { λ r. ⌜ r ≡ endedAt self at outcome ⌝ }
-    {
-        let x = self.places[at];
-        let before = self.cancel;
-        let opens = self.opens;
-        let first = PLACES - opens;
-        let newest = self.places[first];
-        self.places[at] = newest;
-        self.places[first] = Subscription::BLANK;
-        self.opens = opens - 1;
-        self.cancel = reason_left(x.reporting, before);
-        let stays = stays(before, x, outcome);
-        if stays {
-            let n = self.stored;
-            self.places[n] = x.close(outcome);
-            self.stored = n + 1;
-        }
-        Completed {
-            answer: Completion::Ended(Ended {
-                kept: stays,
-                failed: x.has_failed(outcome),
-            }),
-            table: self,
-        }
-    }
-
-    // One more is stored, at the end.
-    fn stored_last(mut self, x: Subscription) -> Table
-        requires { ⌜ self .stored < 80 ⌝ }
-        ensures { λ r. ⌜ r ≡ storedLast self x ⌝ }
-    {
-        let n = self.stored;
-        self.places[n] = x;
-        self.stored = n + 1;
-        self
-    }
-
-    fn with_next(mut self, next: u32) -> Table
-        ensures { λ r. ⌜ r ≡ withNextId self next ⌝ }
-    {
-        self.next = next;
-        self
-    }
-
-    fn with_cancel(mut self, reason: u8) -> Table
-        ensures { λ r. ⌜ r ≡ withReason self reason ⌝ }
-    {
-        self.cancel = reason;
-        self
-    }
-
-    // How many stored ones are of the fabric; none where no fabric is asked.
-    fn of_fabric(self, fabric: u8) -> usize
-        requires { ⌜ self .stored ≤ 80 ⌝ }
-        ensures { λ r. ⌜ r ≡ cond (eqb fabric 0) 0 (count (ofFabric fabric) (storedOf self)) ⌝ }
-    {
-        if fabric == 0 {
-            return 0;
-        }
-        self.count_stored(Test::Fabric(fabric))
+    Settled {
+        answer: Change::Done,
+        table: purged(table),
     }
 }
 
-// What one pass over the live ones finds.
-pub struct Lives {
-    pub ids: [u32; 80],
-    pub orphan: bool,
-    pub reports: usize,
-}
-
-// Which subscriptions a scan is after.
-pub enum Test {
-    Id(u32),
-    Report,
-    Priming,
-    // Reportable at the settings; the number is the log's greatest identity.
-    Ready(Settings, u64),
-    Chosen(Choice),
-    // The report, where the choice takes it.
-    Struck(Choice),
-    Fabric(u8),
-    // Of the fabric and the peer, with no failure since the last report.
-    Served(u8, u64),
-}
-
-impl Test {
-    fn passes(self, x: Subscription) -> bool
-        ensures { λ r. ⌜ r ≡ passes self x ⌝ }
-    {
-        match self {
-            Test::Id(id) => x.id == id,
-            Test::Report => x.reporting,
-            Test::Priming => !x.reporting,
-            Test::Ready(at, newest) => {
-                let now = at.now;
-                let kind = at.kind;
-                x.is_reportable(now, x.seen < newest, at.events, kind, at.all)
-            }
-            Test::Chosen(choice) => choice.takes(x),
-            Test::Struck(choice) => is_struck(choice, x),
-            Test::Fabric(fabric) => x.fabric == fabric,
-            Test::Served(fabric, peer) => is_served(x, fabric, peer),
-        }
-    }
-}
-
-// What a scan takes the least of.
-pub enum Measure {
-    // The next instant; the number is the log's greatest identity.
-    Next(Settings, u64),
-    // The due instant on an intermittently connected device.
-    Due,
-    // The seen watermark.
-    Seen,
-}
-
-impl Measure {
-    fn of(self, x: Subscription) -> u64
-        ensures { λ r. ⌜ r ≡ measured self x ⌝ }
-    {
-        match self {
-            Measure::Next(at, newest) => {
-                let kind = at.kind;
-                let next = x.next_report_at(x.seen < newest, at.events, kind);
-                next.ms
-            }
-            Measure::Due => {
-                let due = x.report_due_at(KeepAlive::Icd);
-                due.ms
-            }
-            Measure::Seen => x.seen,
-        }
-    }
-}
-
-fn is_served(x: Subscription, fabric: u8, peer: u64) -> bool
-    ensures { λ r. ⌜ r ≡ served fabric peer x ⌝ }
+// A path has changed.
+pub fn note(table: Table, endpoint: u16, cluster: u32, attr: u32) -> TableNoted
+    ensures { λ r. ⌜ r ≡ noteIn table endpoint cluster attr ⌝ }
 {
-    if x.fabric == fabric {
-        if x.peer == peer {
-            return x.fails == 0;
-        }
+    if !is_kept(table) {
+        return TableNoted {
+            answer: Hearing::Refused(Refusal::NotWellKept),
+            table: table,
+        };
     }
-    false
+    let log = table.log;
+    let identity = log.next;
+    let noted = log.note(endpoint, cluster, attr);
+    let after = noted.log;
+    TableNoted {
+        answer: Hearing::Entered(Heard {
+            identity: identity,
+            wakes: true,
+        }),
+        table: with_log(table, after),
+    }
 }
 
-// Whether the capacity is one, and the counts are within it.
-fn within(capacity: u8, stored: usize, opens: usize) -> bool
-    ensures { λ r. ⌜ r ≡ (capacityFits capacity && leb (stored + opens) capacity) ⌝ }
+// The first stored one that is reportable is handed out.
+pub fn report(table: Table, at: Settings) -> Reported
+    ensures { λ r. ⌜ r ≡ reportIn table at ⌝ }
 {
-    if capacity == 0 {
+    if !is_kept(table) {
+        return not_reported(table, Refusal::NotWellKept);
+    }
+    if find_open(table, Test::Report) < 80 {
+        return not_reported(table, Refusal::ReportOpen);
+    }
+    hand_out(table, at)
+}
+
+// Whether the open report or priming with the id tells of the attribute.
+pub fn should_report_attr(table: Table, id: u32, endpoint: u16, cluster: u32, attr: u32) -> Told
+    ensures { λ r. ⌜ r ≡ attributeAt table id endpoint cluster attr ⌝ }
+{
+    if !is_kept(table) {
+        return Told::Refused(Refusal::NotWellKept);
+    }
+    let at = find_open(table, Test::Id(id));
+    if 80 <= at {
+        return Told::Refused(Refusal::NotOpen);
+    }
+    let x = one_at(table, at);
+    let reported = x.reported;
+    if reported.is_never() {
+        return Told::Is(true);
+    }
+    let log = table.log;
+    log.contains_since(endpoint, cluster, attr, x.seen)
+}
+
+// Whether the open report or priming with the id is sent though it has nothing to tell.
+pub fn should_send_if_empty(table: Table, id: u32, kind: KeepAlive) -> Told
+    ensures { λ r. ⌜ r ≡ sendAt table id kind ⌝ }
+{
+    if !is_kept(table) {
+        return Told::Refused(Refusal::NotWellKept);
+    }
+    let at = find_open(table, Test::Id(id));
+    if 80 <= at {
+        return Told::Refused(Refusal::NotOpen);
+    }
+    let x = one_at(table, at);
+    let opened = x.opened;
+    Told::Is(x.is_report_due(opened, kind))
+}
+
+// The earliest instant at which a stored one could report.
+pub fn next_report_at(table: Table, events: u64, kind: KeepAlive) -> Moment
+    ensures { λ r. ⌜ r ≡ nextAt table events kind ⌝ }
+{
+    if !is_kept(table) {
+        return Moment::Refused(Refusal::NotWellKept);
+    }
+    let log = table.log;
+    let newest = log.newest().value();
+    let last = Instant::LAST;
+    let at = Settings {
+        now: last,
+        events: events,
+        kind: kind,
+        all: false,
+    };
+    Moment::At(Instant {
+        ms: least_stored(table, Measure::Next(at, newest), last.ms),
+    })
+}
+
+// Whether a stored one is reportable now.
+pub fn any_reportable(table: Table, now: Instant, events: u64, kind: KeepAlive) -> Told
+    ensures { λ r. ⌜ r ≡ anyAt table now events kind ⌝ }
+{
+    if !is_kept(table) {
+        return Told::Refused(Refusal::NotWellKept);
+    }
+    let log = table.log;
+    let newest = log.newest().value();
+    let at = Settings {
+        now: now,
+        events: events,
+        kind: kind,
+        all: false,
+    };
+    Told::Is(find_stored(table, Test::Ready(at, newest)) < table.stored)
+}
+
+// When an intermittently connected device wakes up for its subscriptions at the latest.
+pub fn next_keep_alive_at(table: Table) -> Alive
+    ensures { λ r. ⌜ r ≡ aliveAt table ⌝ }
+{
+    if !is_kept(table) {
+        return Alive::Refused(Refusal::NotWellKept);
+    }
+    if table.stored == 0 {
+        return Alive::Never;
+    }
+    let last = Instant::LAST;
+    Alive::At(Instant {
+        ms: least_stored(table, Measure::Due, last.ms),
+    })
+}
+
+// Figures for the status page: counted places, the stored of a fabric (0 where none is asked), and the ids given so far.
+pub fn load_stats(table: Table, fabric: u8) -> Loaded
+    ensures { λ r. ⌜ r ≡ loadOf table fabric ⌝ }
+{
+    if !is_kept(table) {
+        return Loaded::Refused(Refusal::NotWellKept);
+    }
+    Loaded::Is(Load {
+        places: table.stored + table.opens,
+        fabric: of_fabric(table, fabric),
+        established: less_one(table.next),
+    })
+}
+
+// Whether the peer has a subscription that is served: the last report to it did not fail.
+pub fn has_subscription_for(table: Table, fabric: u8, peer: u64) -> Told
+    ensures { λ r. ⌜ r ≡ hasAt table fabric peer ⌝ }
+{
+    if !is_kept(table) {
+        return Told::Refused(Refusal::NotWellKept);
+    }
+    Told::Is(find_stored(table, Test::Served(fabric, peer)) < table.stored)
+}
+
+// Whether the table is well kept.
+pub fn is_kept(table: Table) -> bool
+    ensures { λ r. ⌜ r ≡ kept table ⌝ }
+{
+    let stored = table.stored;
+    let opens = table.opens;
+    if !within(table.capacity, stored, opens) {
         return false;
     }
-    if 80 < capacity {
+    let log = table.log;
+    if !log.is_kept() {
         return false;
     }
-    let most = capacity as usize;
-    if most < stored {
+    let lives = lives(table);
+    if lives.orphan {
         return false;
     }
-    opens <= most - stored
-}
-
-// At most one report is open, and a cancel reason is there only with it.
-fn cancel_fits(reports: usize, cancel: u8) -> bool
-    ensures { λ r. ⌜ r ≡ (leb reports 1 && (eqb cancel 0 || ltb 0 reports)) ⌝ }
-{
-    if 1 < reports {
+    let ids = lives.ids;
+    let n = stored + opens;
+    if !distinct::all_differ(&ids[..n]) {
         return false;
     }
-    if cancel == 0 {
-        return true;
-    }
-    0 < reports
-}
-
-// Where the i-th live one stands: the open ones begin behind a gap.
-fn place_of(i: usize, stored: usize, gap: usize) -> usize
-    requires { ⌜ i + gap < 2 ^ 32 ⌝ }
-    ensures { λ r. ⌜ r ≡ placeOf i stored gap ⌝ }
-{
-    if i < stored { i } else { i + gap }
-}
-
-fn either(a: bool, b: bool) -> bool
-    ensures { λ r. ⌜ r ≡ (a || b) ⌝ }
-{
-    if a { true } else { b }
-}
-
-fn one_if_both(a: bool, b: bool) -> usize
-    ensures { λ r. ⌜ r ≡ one (a && b) ⌝ }
-{
-    if a {
-        if b {
-            return 1;
-        }
-    }
-    0
-}
-
-fn lesser(a: u64, b: u64) -> u64
-    ensures { λ r. ⌜ r ≡ min a b ⌝ }
-{
-    if a <= b { a } else { b }
+    cancel_fits(lives.reports, table.cancel)
 }
 
 fn fresh(capacity: u8) -> Table
@@ -977,52 +399,66 @@ fn fresh(capacity: u8) -> Table
     }
 }
 
-fn less_one(n: u32) -> u32
-    ensures { λ r. ⌜ r ≡ n - 1 ⌝ }
+fn not_admitted(table: Table, why: Refusal) -> Admitted
+    ensures { λ r. ⌜ r ≡ notAdmitted table why ⌝ }
 {
-    if n == 0 { 0 } else { n - 1 }
-}
-
-// The greater of the next id and the one after a given id, which wraps.
-fn next_id(next: u32, id: u32) -> u32
-    ensures { λ r. ⌜ r ≡ nextIdAfter next id ⌝ }
-{
-    let after = std::num::wrapping_add_u32(id, 1);
-    if next <= after { after } else { next }
-}
-
-// The reason that is left when an open one ends: it goes with the report.
-fn reason_left(reporting: bool, reason: u8) -> u8
-    ensures { λ r. ⌜ r ≡ cond reporting 0 reason ⌝ }
-{
-    if reporting { 0 } else { reason }
-}
-
-// Whether an open one is stored again when it ends. A report that was cancelled is dropped whatever its outcome.
-fn stays(cancel: u8, x: Subscription, outcome: u8) -> bool
-    ensures { λ r. ⌜ r ≡ staysAfter cancel x outcome ⌝ }
-{
-    if is_cancelled(x.reporting, cancel) {
-        return false;
+    Admitted {
+        answer: Admission::Refused(why),
+        table: table,
     }
-    x.is_kept(outcome)
 }
 
-// Whether an open one is a report that was cancelled.
-fn is_cancelled(reporting: bool, reason: u8) -> bool
-    ensures { λ r. ⌜ r ≡ (reporting && not (eqb reason 0)) ⌝ }
+fn not_completed(table: Table, why: Refusal) -> Completed
+    ensures { λ r. ⌜ r ≡ notCompleted table why ⌝ }
 {
-    if reporting {
-        return reason != 0;
+    Completed {
+        answer: Completion::Refused(why),
+        table: table,
     }
-    false
 }
 
-fn is_struck(choice: Choice, x: Subscription) -> bool
-    ensures { λ r. ⌜ r ≡ struck choice x ⌝ }
+fn not_woken(table: Table, why: Refusal) -> Woken
+    ensures { λ r. ⌜ r ≡ notWoken table why ⌝ }
 {
-    if x.reporting {
-        return choice.takes(x);
+    Woken {
+        answer: Waking::Refused(why),
+        table: table,
+    }
+}
+
+fn not_reported(table: Table, why: Refusal) -> Reported
+    ensures { λ r. ⌜ r ≡ notReported table why ⌝ }
+{
+    Reported {
+        answer: HandOut::Refused(why),
+        table: table,
+    }
+}
+
+// The first stored one that is reportable opens its report.
+fn hand_out(table: Table, at: Settings) -> Reported
+    requires { ⌜ (table .stored + table .opens ≤ 80) × (logKept (table .log) ≡ true) ⌝ }
+    ensures { λ r. ⌜ r ≡ handOutIn table at ⌝ }
+{
+    let log = table.log;
+    let newest = log.newest().value();
+    let i = find_stored(table, Test::Ready(at, newest));
+    if i < table.stored {
+        return handed(table, i, log.watermark().value(), at);
+    }
+    Reported {
+        answer: HandOut::Nothing,
+        table: table,
+    }
+}
+
+// Whether a removal cancels the open report: it is taken, and not cancelled yet.
+fn cancels(table: Table, choice: Choice) -> bool
+    requires { ⌜ table .opens ≤ 80 ⌝ }
+    ensures { λ r. ⌜ r ≡ cancelsIn table choice ⌝ }
+{
+    if table.cancel == 0 {
+        return find_open(table, Test::Struck(choice)) < 80;
     }
     false
 }
@@ -1042,4 +478,41 @@ fn reason_after(cancels: bool, reason: u8, before: u8) -> u8
     ensures { λ r. ⌜ r ≡ cond cancels reason before ⌝ }
 {
     if cancels { reason } else { before }
+}
+
+// The table without the entries that every stored one has seen.
+fn purged(table: Table) -> Table
+    requires { ⌜ table .stored ≤ 80 ⌝ }
+    ensures { λ r. ⌜ r ≡ purgedTable table ⌝ }
+{
+    if 0 < table.opens {
+        return table;
+    }
+    let log = table.log;
+    if 0 < table.stored {
+        let first = table.places[0];
+        let after = log.purge_up_to(least_stored(table, Measure::Seen, first.seen));
+        let left = after.log;
+        return with_log(table, left);
+    }
+    let none = log.clear();
+    let left = none.log;
+    with_log(table, left)
+}
+
+// How many stored ones are of the fabric; none where no fabric is asked.
+fn of_fabric(table: Table, fabric: u8) -> usize
+    requires { ⌜ table .stored ≤ 80 ⌝ }
+    ensures { λ r. ⌜ r ≡ cond (eqb fabric 0) 0 (count (ofFabric fabric) (storedOf table)) ⌝ }
+{
+    if fabric == 0 {
+        return 0;
+    }
+    count_stored(table, Test::Fabric(fabric))
+}
+
+fn less_one(n: u32) -> u32
+    ensures { λ r. ⌜ r ≡ n - 1 ⌝ }
+{
+    if n == 0 { 0 } else { n - 1 }
 }

@@ -22,11 +22,11 @@ use Rattle.lines.proofs.Inputs.{input-lines}
 use Rattle.printing.specs.Answers.{answerRoom}
 use Rattle.rules.specs.States.{wellKept}
 use Rattle.rules.proofs.Kept.{fresh-well-kept}
-use Rattle.table.specs.declared.Table.{Table}
-use Rattle.table.specs.Views.{freshTable, kept}
-use Rattle.table.proofs.NewAgrees.{fresh-view, new-makes}
-use Rattle.table.proofs.Tidying.{fresh-tidy}
-use Rattle.table.proofs.TidyViews.{whole-kept}
+use Rattle.places.specs.declared.Table.{Table}
+use Rattle.places.specs.Views.{freshTable, kept}
+use Rattle.places.proofs.NewAgrees.{fresh-view, new-makes}
+use Rattle.places.proofs.Tidying.{fresh-tidy}
+use Rattle.places.proofs.TidyViews.{whole-kept}
 use Rattle.tracing.specs.declared.Session.{Session}
 use Rattle.tracing.specs.Trace.{traceFrom, traceOf}
 use Rattle.tracing.specs.Runs.{Work, sessionOf, startOf, begun, runOf, closed, finishOf}

@@ -22,7 +22,7 @@ use Rattle.cutting.proofs.Steps.{scan-ends, scan-goes, scan-none}
 use Rattle.cutting.proofs.Scans.{ends-not, scan-from, scan-is}
 use Rattle.lines.specs.declared.Line.{Line}
 use Rattle.printing.specs.Answers.{answerOf, putOf, answerRoom}
-use Rattle.table.specs.declared.Table.{Table}
+use Rattle.places.specs.declared.Table.{Table}
 use Rattle.answering.specs.declared.Answered.{Answered}
 use Rattle.answering.specs.Answers.{answerIn}
 use Rattle.tracing.specs.declared.Ran.{Ran}

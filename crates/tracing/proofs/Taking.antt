@@ -25,7 +25,7 @@ use Rattle.lines.specs.Inputs.{lineIn}
 use Rattle.lines.proofs.Inputs.{whole-line, bad-line}
 use Rattle.printing.specs.Answers.{answerRoom}
 use Rattle.printing.proofs.Written.{answer-written}
-use Rattle.table.specs.declared.Table.{Table}
+use Rattle.places.specs.declared.Table.{Table}
 use Rattle.answering.specs.Answers.{answerIn}
 use Rattle.tracing.specs.Runs.{Work, moved, textOf, answeredTo, told, byteIn, runFrom}
 use Rattle.tracing.proofs.Scanning.{Room, run-full, run-done, run-next}

@@ -10,9 +10,9 @@ use native.Mathlib.Omega.{arith}
 use lib.ListN.{length}
 use Rattle.printing.specs.Answers.{answerOf}
 use Rattle.lines.specs.declared.Line.{Line}
-use Rattle.table.specs.declared.Table.{Table}
-use Rattle.table.specs.Views.{view, kept}
-use Rattle.table.specs.Tidiness.{Whole}
+use Rattle.places.specs.declared.Table.{Table}
+use Rattle.places.specs.Views.{view, kept}
+use Rattle.places.specs.Tidiness.{Whole}
 use Rattle.answering.specs.Answers.{answerIn}
 use Rattle.answering.specs.Rules.{Said}
 use Rattle.answering.proofs.Agrees.{answer-agrees, answer-whole, answer-kept}

@@ -14,8 +14,8 @@ use Rattle.lines.specs.declared.Line.{Line}
 use Rattle.lines.specs.declared.Line.the-variants.{Bad}
 use Rattle.lines.specs.Lines.{lineOf}
 use Rattle.printing.specs.Answers.{answerOf, putOf, answerRoom}
-use Rattle.table.specs.declared.Table.{Table}
-use Rattle.table.specs.Calls.{newTable}
+use Rattle.places.specs.declared.Table.{Table}
+use Rattle.places.specs.Calls.{newTable}
 use Rattle.answering.specs.Answers.{answerIn}
 use Rattle.tracing.specs.declared.Session.{Session}
 use Rattle.tracing.specs.declared.Ran.{Ran}

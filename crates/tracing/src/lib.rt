@@ -11,8 +11,8 @@ use cutting::Found;
 use cutting::MOST_LINES;
 use cutting::Reading;
 use lines::Line;
+use places::Table;
 use printing::ANSWER_ROOM;
-use table::Table;
 
 pub struct Session {
     pub table: Table,
@@ -33,7 +33,7 @@ const CAPACITY: u8 = 80;
 pub fn start() -> Session
     ensures { λ r. ⌜ r ≡ startOf ⌝ }
 {
-    let made = Table::new(CAPACITY);
+    let made = table::new(CAPACITY);
     let table = made.table;
     Session {
         table: table,

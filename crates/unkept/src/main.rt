@@ -10,6 +10,21 @@ use changes::ChangedAttrs;
 use entries::ChangedAttr;
 use libc::STDOUT_FILENO;
 use notes::Held;
+use places::Admission;
+use places::Admitted;
+use places::Alive;
+use places::Completed;
+use places::Completion;
+use places::HandOut;
+use places::Hearing;
+use places::Loaded;
+use places::Moment;
+use places::Reported;
+use places::Settled;
+use places::Table;
+use places::TableNoted;
+use places::Waking;
+use places::Woken;
 use refusal::Refusal;
 use round::Rounding;
 use subscription::Choice;
@@ -17,21 +32,6 @@ use subscription::Request;
 use subscription::SENT;
 use subscription::Settings;
 use subscription::Subscription;
-use table::Admission;
-use table::Admitted;
-use table::Alive;
-use table::Completed;
-use table::Completion;
-use table::HandOut;
-use table::Hearing;
-use table::Loaded;
-use table::Moment;
-use table::Reported;
-use table::Settled;
-use table::Table;
-use table::TableNoted;
-use table::Waking;
-use table::Woken;
 use time::Instant;
 use time::KeepAlive;
 
@@ -53,7 +53,7 @@ fn main() {
 fn unkept() {
     let busy = priming(reporting(three(clean())));
     calls(b"nothing broken", busy, 1);
-    calls(b"capacity 0", Table::new(0).table, 1);
+    calls(b"capacity 0", table::new(0).table, 1);
     calls(b"capacity 81", with_capacity(clean(), 81), 1);
     calls(b"over capacity", with_capacity(busy, 3), 1);
     calls(b"17 entries", with_log(busy, 17, 2), 1);
@@ -148,20 +148,18 @@ fn three(t: Table) -> Table {
 }
 
 fn primed(t: Table, id: u32) -> Table {
-    t.add(REQUEST, 0, Instant::at(1000))
-        .table
-        .complete(id, SENT)
-        .table
+    let open = table::add(t, REQUEST, 0, Instant::at(1000)).table;
+    table::complete(open, id, SENT).table
 }
 
 // The first one is handed out, when it is due.
 fn reporting(t: Table) -> Table {
-    t.report(due()).table
+    table::report(t, due()).table
 }
 
 // One more is admitted.
 fn priming(t: Table) -> Table {
-    t.add(REQUEST, 0, Instant::at(31000)).table
+    table::add(t, REQUEST, 0, Instant::at(31000)).table
 }
 
 // Thirty seconds after the last report, when the next one is due.
@@ -216,21 +214,21 @@ fn with_cancel(mut t: Table, reason: u8) -> Table {
 // Every call that takes a table; `id` is whom completion and the questions to an open one ask for.
 fn calls(state: &[u8], t: Table, id: u32) {
     line(state, b"add");
-    admitted(t, t.add(REQUEST, 0, Instant::at(31000)));
+    admitted(t, table::add(t, REQUEST, 0, Instant::at(31000)));
     line(state, b"resume");
-    admitted(t, t.resume(9, REQUEST, 0));
+    admitted(t, table::resume(t, 9, REQUEST, 0));
     line(state, b"note");
-    noted(t, t.note(3, 6, 1));
+    noted(t, table::note(t, 3, 6, 1));
     line(state, b"report");
-    reported(t, t.report(due()));
+    reported(t, table::report(t, due()));
     line(state, b"complete");
-    completed(t, t.complete(id, SENT));
+    completed(t, table::complete(t, id, SENT));
     line(state, b"remove");
-    woken(t, t.remove(Choice::All, 9));
+    woken(t, table::remove(t, Choice::All, 9));
     line(state, b"clear");
-    woken(t, t.clear());
+    woken(t, table::clear(t));
     line(state, b"purge");
-    settled(t, t.purge_reported_changes());
+    settled(t, table::purge_reported_changes(t));
     line(state, b"round");
     rounded(t);
     questions(state, t, id);
@@ -238,21 +236,21 @@ fn calls(state: &[u8], t: Table, id: u32) {
 
 fn questions(state: &[u8], t: Table, id: u32) {
     line(state, b"attribute");
-    told(t.should_report_attr(id, 3, 6, 0));
+    told(table::should_report_attr(t, id, 3, 6, 0));
     line(state, b"send if empty");
-    told(t.should_send_if_empty(id, KeepAlive::Default));
+    told(table::should_send_if_empty(t, id, KeepAlive::Default));
     line(state, b"next instant");
-    moment(t.next_report_at(0, KeepAlive::Default));
+    moment(table::next_report_at(t, 0, KeepAlive::Default));
     line(state, b"any reportable");
-    told(t.any_reportable(Instant::at(2000), 0, KeepAlive::Default));
+    told(table::any_reportable(t, Instant::at(2000), 0, KeepAlive::Default));
     line(state, b"next keep-alive");
-    alive(t.next_keep_alive_at());
+    alive(table::next_keep_alive_at(t));
     line(state, b"statistics");
-    loaded(t.load_stats(1));
+    loaded(table::load_stats(t, 1));
     line(state, b"has subscription");
-    told(t.has_subscription_for(1, 8));
+    told(table::has_subscription_for(t, 1, 8));
     line(state, b"well kept");
-    told(Told::Is(t.is_kept()));
+    told(Told::Is(table::is_kept(t)));
 }
 
 // The id that was given.

@@ -2,8 +2,8 @@
 -- Assumes nothing.
 use mathlib.Core.Path.{ap, _∙_}
 use borrow.Author.Needs.{needs}
-use Rattle.table.specs.Calls.{addTo}
-use Rattle.table.specs.declared.Admitted.{Admitted}
+use Rattle.places.specs.Calls.{addTo}
+use Rattle.places.specs.declared.Admitted.{Admitted}
 use Rattle.answering.specs.Answers.{addedIn}
 use Rattle.answering.specs.Replies.{admissionReply}
 use Rattle.answering.proofs.Passing.{passed-on}

@@ -1,7 +1,7 @@
 -- `done` meets its contract: the call's table and answer are passed on.
 -- Assumes nothing.
 use borrow.Author.Needs.{needs}
-use Rattle.table.specs.declared.Completed.{Completed}
+use Rattle.places.specs.declared.Completed.{Completed}
 use Rattle.answering.specs.Answers.{doneIn}
 use Rattle.answering.specs.Replies.{completionReply}
 use Rattle.answering.proofs.Passing.{passed-on}

@@ -1,7 +1,7 @@
 -- `noted` meets its contract: the call's table and answer are passed on.
 -- Assumes nothing.
 use borrow.Author.Needs.{needs}
-use Rattle.table.specs.declared.TableNoted.{TableNoted}
+use Rattle.places.specs.declared.TableNoted.{TableNoted}
 use Rattle.answering.specs.Answers.{notedIn}
 use Rattle.answering.specs.Replies.{hearingReply}
 use Rattle.answering.proofs.Passing.{passed-on}

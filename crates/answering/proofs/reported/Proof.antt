@@ -7,8 +7,8 @@ use borrow.Author.Needs.{needs}
 use Rattle.answering.specs.Answers.{reportedIn}
 use Rattle.answering.specs.Replies.{handOutReply}
 use Rattle.subscription.specs.declared.Settings.{Settings}
-use Rattle.table.specs.Calls.{reportIn}
-use Rattle.table.specs.declared.Reported.{Reported}
+use Rattle.places.specs.Calls.{reportIn}
+use Rattle.places.specs.declared.Reported.{Reported}
 use Rattle.time.specs.Instants.{instant}
 use Rattle.time.specs.declared.Instant.{Instant}
 use Rattle.time.specs.declared.KeepAlive.{KeepAlive}

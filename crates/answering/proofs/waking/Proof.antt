@@ -4,7 +4,7 @@ use mathlib.Core.Path.{ap, _∙_}
 use borrow.Author.Needs.{needs}
 use Rattle.answering.specs.Answers.{answered}
 use Rattle.answering.specs.Replies.{momentReply}
-use Rattle.table.specs.Calls.{nextAt}
+use Rattle.places.specs.Calls.{nextAt}
 use Rattle.answering.proofs.waking.Statement.{statement}
 use Rattle.answering.proofs.waking.Tie as tie
 

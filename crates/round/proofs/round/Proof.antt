@@ -8,7 +8,7 @@ use Rattle.round.specs.Rounds.{roundOf}
 use Rattle.rules.specs.Calls as call
 use Rattle.lists.proofs.Arrays.{full}
 use Rattle.round.proofs.Refusing.{same-lengths, shut-is, refused-slices, refused-shut, not-refused}
-use Rattle.table.proofs.Refusing.{unkept}
+use Rattle.places.proofs.Refusing.{unkept}
 use Rattle.round.proofs.round.Statement.{statement}
 use Rattle.round.proofs.round.Tie as tie
 

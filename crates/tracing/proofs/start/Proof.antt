@@ -2,7 +2,7 @@
 -- Assumes nothing.
 use mathlib.Core.Path.{ap, _∙_}
 use borrow.Author.Needs.{needs}
-use Rattle.table.specs.declared.Settled.{Settled}
+use Rattle.places.specs.declared.Settled.{Settled}
 use Rattle.tracing.specs.Runs.{sessionOf, startOf}
 use Rattle.tracing.proofs.start.Statement.{statement}
 use Rattle.tracing.proofs.start.Tie as tie

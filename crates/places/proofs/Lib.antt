@@ -1,0 +1,15 @@
+pub mod Finding
+pub mod Refusing
+pub mod Viewing
+pub mod Agreeing
+pub mod NewAgrees
+pub mod ReportAgrees
+pub mod AdmissionAgrees
+pub mod CompletionAgrees
+pub mod QuestionsAgree
+pub mod ClearingAgrees
+pub mod RemovalAgrees
+pub mod LeastAgrees
+pub mod Tidying
+pub mod Lasting
+pub mod TidyViews
