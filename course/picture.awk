@@ -66,7 +66,9 @@ function chooseUnit(   wide) {
     if (high(start) == high(LAST)) { zero = ms(LAST); origin = " from the last instant, 2^64 - 1 ms" }
 }
 
+# Whole hours where a plain number no longer tells milliseconds apart: in a history that spans 285,000 years.
 function clockTime(t,   words) {
+    if (t > 9000000000000000) return sprintf("%.0f h", t / 3600000)
     words = sprintf("%.0f:%02d", int(t / 3600000), int(t / 60000) % 60)
     if (t % 60000) words = words sprintf(":%02d", int(t / 1000) % 60)
     if (t % 1000) words = words sprintf(".%03d", t % 1000)
