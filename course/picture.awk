@@ -2,7 +2,7 @@
 # What an instant is and which one counts is not decided here.
 
 BEGIN {
-    WIDTH = 940; LEFT = 126; RIGHT = 850; TOP = 84; LANE = 74
+    WIDTH = 950; LEFT = 126; RIGHT = 850; TOP = 84; LANE = 74
     SLOT = 33                      # the width of a line's column, where there is room
     ROOM = 150                     # at least so much is left for the time between the lines
     COLOUR["report"] = "#0072b2"; COLOUR["priming"] = "#a86e00"; COLOUR["note"] = "#d55e00"
@@ -59,7 +59,7 @@ function middle(lane) { return TOP + LANE * (lane - 1) + 28 }
 # A history near the last instant is told from there, another from 0; one in between from its first line.
 function chooseUnit(   wide) {
     wide = ends - begins
-    unit = wide <= 3000 ? "ms" : wide <= 600000 ? "s" : wide <= 14400000 ? "min" : "h"
+    unit = wide <= 500 ? "ms" : wide <= 600000 ? "s" : wide <= 14400000 ? "min" : "h"
     per = unit == "ms" ? 1 : unit == "s" ? 1000 : 60000
     zero = 0
     if (high(start) > 0) { zero = begins; origin = " after the first line" }
@@ -224,7 +224,7 @@ function label(lane, x, y, words, look,   row, l, half) {
 
 function drawAxis(   step, t, x) {
     stroke(LEFT, bottom, RIGHT, bottom, "stroke=\"#000000\"")
-    for (step = 1; step * scale < 40;) step = nextStep(step)
+    for (step = 1; step * scale < 6 * length(inWords(ends)) + 12;) step = nextStep(step)
     for (t = zero - int((zero - begins) / step) * step; t <= ends; t += step) if (t >= begins) {
         x = xOf(t)
         stroke(x, bottom, x, bottom + 5, "stroke=\"#000000\"")
