@@ -6,8 +6,8 @@ BEGIN {
     SLOT = 33                      # the width of a line's column, where there is room
     ROOM = 150                     # at least so much is left for the time between the lines
     COLOUR["report"] = "#0072b2"; COLOUR["priming"] = "#a86e00"; COLOUR["note"] = "#d55e00"
-    ENDED = "stroke=\"#000000\" stroke-width=\"3\""
     COLOUR["gate"] = "#00795a"; COLOUR["retry"] = "#a0407a"; COLOUR["due"] = "#0072b2"; COLOUR["expiry"] = "#000000"
+    ENDED = "stroke=\"#000000\" stroke-width=\"3\""
 }
 
 # ---- places
@@ -18,12 +18,11 @@ function ms(at) { return (high(at) - high(start)) * 1000000000000 + low(at) }
 function isDrawn(m) { return markAt[m] <= markUntil[m] }
 
 # The axis goes on behind the last line for marks that are not far.
-function span(   m, wide) {
+function span(   m, wide, last) {
     begins = ms(start)
-    ends = lines ? ms(when[lines]) : begins
-    wide = ends > begins ? ends - begins : 1000
-    last = ends
-    ends += wide / 8
+    last = lines ? ms(when[lines]) : begins
+    wide = last > begins ? last - begins : 1000
+    ends = last + wide / 8
     for (m = 1; m <= marks; m++) if (isDrawn(m) && ms(markAt[m]) > ends && ms(markAt[m]) <= last + wide / 2) ends = ms(markAt[m])
 }
 
