@@ -2,31 +2,29 @@
 -- turns it falls silent.
 -- Assumes nothing.
 use mathlib.Core.Path.{_≡_, refl, sym, ap, _∙_}
-use mathlib.Core.Bool.{Bool, true, false, not, _&&_, _||_}
+use mathlib.Core.Bool.{true, false}
 use mathlib.Core.List.{List, [], _∷_}
-use Prim.Native.Nat.{ℕ, _+_, _≤_, _<_}
+use Prim.Native.Nat.{ℕ, _+_, _≤_}
 use native.Mathlib.Omega.{arith}
 use borrow.Author.Tests.{eqb-true, not-false}
-use lib.Dec.{eqb, leb}
+use lib.Dec.{eqb}
 use lib.ListN.{length}
 use Rattle.time.specs.Instants.{lastInstant}
 use Rattle.subscription.specs.declared.Settings.{Settings}
 use Rattle.subscription.specs.declared.Subscription.{Subscription}
-use Rattle.lists.specs.Search.{one, some, count, distinct}
-use Rattle.subscription.specs.Life.{blank}
+use Rattle.lists.specs.Search.{some, count, distinct}
 use Rattle.rules.specs.States.{State, reportOpen, hasId, wellKept}
 use Rattle.rules.specs.Machine.{changedFor, ready, nextUp, reported, step}
 use Rattle.rules.specs.Rounds.{handedId}
-use Rattle.heard.specs.Playing.{Turn, Played, withEvents, turned, saysNothing, nobody, whom, also, play, plainOutcome, odd, allowedBy}
+use Rattle.heard.specs.Playing.{Turn, withEvents, turned, saysNothing, nobody, whom, also, play, plainOutcome, odd, allowedBy}
 use Rattle.rules.specs.Calls as call
-use Rattle.lists.proofs.Bools.{split, clash, and-true, or-neither}
-use Rattle.lists.proofs.Orders.{some-nil, some-cons, count-nil, count-none, count-some, some-count, none-count, none-counted, one-yes, one-no, count-cons, counts-distinct}
+use Rattle.lists.proofs.Bools.{split, or-neither}
+use Rattle.lists.proofs.Orders.{both-fewer, some-cons, count-nil, none-count, none-counted, one-yes, one-no, count-cons, counts-distinct}
 use Rattle.subscription.proofs.Spacing.{reportable-allowed}
-use Rattle.rules.proofs.Clauses.{has-id-is}
 use Rattle.rules.proofs.Acts.{ready-is}
 use Rattle.rules.proofs.Sound.{kept-sound}
 use Rattle.rules.proofs.Turns.{report-step, report-silent}
-use Rattle.heard.proofs.Waiting.{Begun, waiting, one-fewer, turn-begun, this-one-spoke, others-wait, waiting-first, both-fewer}
+use Rattle.heard.proofs.Waiting.{Begun, waiting, one-fewer, turn-begun, this-one-spoke, others-wait, waiting-first}
 
 -- ---- a round, by whom its report hands out
 

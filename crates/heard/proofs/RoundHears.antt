@@ -1,13 +1,12 @@
 -- While a subscription waits with a note that it has not heard of, it stays reportable; so a round that falls silent has handed it out.
 -- Assumes nothing.
 use mathlib.Core.Path.{_≡_, refl, sym, ap, _∙_}
-use mathlib.Core.Logic.{⊎-elim}
-use mathlib.Core.Bool.{Bool, true, false, not, and-false, or-false, _&&_, _||_}
-use mathlib.Core.List.{List, [], _∷_, _++_, map}
+use mathlib.Core.Bool.{Bool, true, false, and-false, or-false, _&&_, _||_}
+use mathlib.Core.List.{List, [], _∷_, map}
 use Prim.Native.Nat.{ℕ, _+_, _≤_, _<_}
 use native.Mathlib.Omega.{arith}
 use native.Mathlib.Nat.{add-zero, add-assoc}
-use borrow.Author.Tests.{leb-false, eqb-true, eq-eqb, ne-eqb, not-true}
+use borrow.Author.Tests.{leb-false, eq-eqb, ne-eqb}
 use lib.Dec.{eqb, leb}
 use Rattle.entries.specs.declared.ChangedAttr.{ChangedAttr}
 use Rattle.time.specs.declared.Instant.{Instant}
@@ -16,16 +15,16 @@ use Rattle.subscription.specs.declared.Settings.{Settings}
 use Rattle.subscription.specs.declared.Subscription.{Subscription}
 use Rattle.lists.specs.Search.{one, some, count}
 use Rattle.subscription.specs.Life.{blank}
-use Rattle.rules.specs.States.{State, hasId, idLive, wellKept}
+use Rattle.rules.specs.States.{State, hasId, idLive}
 use Rattle.rules.specs.Calls.{Op}
-use Rattle.rules.specs.Machine.{refusal, changedFor, ready, nextUp, reported, outcome, step, run}
+use Rattle.rules.specs.Machine.{refusal, changedFor, ready, nextUp, reported, outcome, step}
 use Rattle.rules.specs.Rounds.{isRound, handedId}
 use Rattle.heard.specs.Hearing.{isNote, notesIn, handsOut, endsHeard, acts}
 use Rattle.heard.specs.Playing.{Between, noting, purging, asCall, between, Turn, withEvents, turned, play, plainOutcome, odd, notesDuring, allowedBy}
 use Rattle.rules.specs.Calls as call
-use Rattle.lists.proofs.Bools.{split, clash, and-both, or-left, or-right, or-neither}
-use Rattle.lists.proofs.Searches.{some-append, some-by, some-weaken}
-use Rattle.lists.proofs.Orders.{some-nil, some-cons, count-nil, count-cons, some-count, count-some, none-count, one-no, count-taken}
+use Rattle.lists.proofs.Bools.{split, clash, and-both, or-left, or-right}
+use Rattle.lists.proofs.Searches.{some-append, some-weaken}
+use Rattle.lists.proofs.Orders.{some-rest, some-nil, some-cons, count-nil, count-cons, some-count, count-some, one-no, count-taken}
 use Rattle.changes.proofs.Promises.{reached-any}
 use Rattle.subscription.proofs.Spacing.{changed-reportable}
 use Rattle.rules.proofs.Clauses.{has-id-is}
@@ -38,18 +37,9 @@ use Rattle.heard.proofs.Sane.{Sane, sane-step}
 use Rattle.heard.proofs.Standing.{stands-step}
 use Rattle.heard.proofs.Tracked.{told, told-less, untold-step}
 use Rattle.heard.proofs.Histories.{Tracked}
-use Rattle.heard.proofs.Turning.{one-between, same-between, first-stored, turn-counts, s2-well, ended}
+use Rattle.heard.proofs.Turning.{one-between, same-between, first-stored, ended}
 use Rattle.heard.proofs.Waiting.{Begun, waiting, turn-begun, others-wait, counts, fine, plain-good}
 use Rattle.heard.proofs.Playing.{first-plain, play-goes-on, play-cut}
-
--- one that p holds of and q does not is one that r holds of
-some-rest : {A : Type 0} (p q r : A → Bool) (l : List A) → ((x : A) → p x ≡ true → q x ≡ false → r x ≡ true) → some p l ≡ true → count q l ≡ 0
-    → some r l ≡ true
-some-rest p q r l f h none =
-    ⊎-elim
-    (λ e. absurd (clash (some-weaken (λ x. p x && q x) q l (λ x t. and-both (p x) (q x) t .1) e) (none-count q l none)))
-    (λ e. some-weaken (λ x. p x && not (q x)) r l (λ x t. let w = and-both (p x) (not (q x)) t in f x (w .0) (not-true (q x) (w .1))) e)
-    (some-by p q l h)
 
 stored-lives : (i : ℕ) (s : State) → some (hasId i) (s .stored) ≡ true → idLive i s ≡ true
 stored-lives i s h = some-append (hasId i) (s .stored) (s .opens) ∙ or-left _ h

@@ -3,8 +3,7 @@
 use mathlib.Core.Path.{_≡_, refl, sym, ap, _∙_}
 use mathlib.Core.Bool.{true, false, not}
 use mathlib.Core.List.{List, [], _∷_, map}
-use mathlib.Core.Option.{none}
-use Prim.Native.Nat.{ℕ, suc, _+_, _≤_, _<_}
+use Prim.Native.Nat.{ℕ, suc, _+_, _≤_}
 use native.Mathlib.Omega.{arith}
 use native.Mathlib.Nat.{add-zero, zero-add}
 use native.Mathlib.Numerals.{add-one}
@@ -14,21 +13,20 @@ use lib.Seq.{sets}
 use Rattle.subscription.specs.declared.Settings.{Settings}
 use Rattle.lists.specs.Search.{some, count}
 use Rattle.entries.specs.Paths.{entry}
-use Rattle.rules.specs.States.{State, fresh, capacityFits, reportOpen, hasId, wellKept}
-use Rattle.rules.specs.Calls.{Op}
+use Rattle.rules.specs.States.{State, fresh, reportOpen, wellKept}
 use Rattle.rules.specs.Machine.{Outcome, outcome, Turn, badOutcome, firstOf, ready, nextUp, reported, completedIn, roundFrom, step, run}
 use Rattle.rules.specs.Machine.{turned as turnedBy}
 use Rattle.rules.specs.Histories.{numbered}
 use Rattle.heard.specs.Hearing.{notesIn}
-use Rattle.heard.specs.Playing.{Played, also, play, turned, bare, odd, cramped, allowedBy}
+use Rattle.heard.specs.Playing.{Played, also, play, turned, bare, cramped, allowedBy}
 use Rattle.heard.specs.Demand.{noted, RoundBegins, NobodyTwice, RoundHears, RoundCallPlays}
 use Rattle.rules.specs.Calls as call
-use Rattle.lists.proofs.Bools.{split, and-both, or-neither}
-use Rattle.lists.proofs.Orders.{count-none, count-some, count-every, some-cons}
+use Rattle.lists.proofs.Bools.{split, or-neither}
+use Rattle.lists.proofs.Orders.{both-fewer, count-none, count-some, count-every, some-cons}
 use Rattle.changes.proofs.Promises.{watermark-below}
 use Rattle.rules.proofs.Clauses.{round-objects}
 use Rattle.rules.proofs.Acts.{act-round, roundEnds, round-over, round-goes-on, round-falls-silent, run-none}
-use Rattle.rules.proofs.Kept.{always-well-kept, run-well-kept}
+use Rattle.rules.proofs.Kept.{always-well-kept}
 use Rattle.rules.proofs.Objections.{unobjected, no-objection}
 use Rattle.rules.proofs.Refusals.{unrefused-acts, seven-exactly}
 use Rattle.rules.proofs.Sound.{Sound, kept-sound, sound-kept}
@@ -36,7 +34,7 @@ use Rattle.rules.proofs.Steps.{turn-sound, turn-shut}
 use Rattle.rules.proofs.Turns.{complete-step}
 use Rattle.heard.proofs.Sane.{sane-step}
 use Rattle.heard.proofs.Histories.{fresh-sane, sane-run, note-tracked, tracked-run}
-use Rattle.heard.proofs.Waiting.{Begun, both-fewer, waiting}
+use Rattle.heard.proofs.Waiting.{Begun, waiting}
 use Rattle.heard.proofs.Playing.{play-stops, play-goes-on, play-ends, play-cut, out-fewer, nobody-twice, falls-silent}
 use Rattle.heard.proofs.RoundHears.{silent-heard}
 

@@ -1,9 +1,8 @@
 -- The log stands for a note while somebody live has not heard of it: a later note keeps it, and a purge stops short of whoever has seen less.
 -- Assumes nothing.
 use mathlib.Core.Path.{_≡_, refl, sym, ap, _∙_}
-use mathlib.Core.Bool.{Bool, true, false, not, cond, or-comm, or-false, _&&_, _||_}
-use mathlib.Core.List.{List, [], _∷_, _++_}
-use mathlib.Core.Option.{none}
+use mathlib.Core.Bool.{Bool, true, false, cond, or-comm, or-false}
+use mathlib.Core.List.{List, [], _∷_}
 use Prim.Native.Nat.{ℕ, _+_, _-_, _≤_, _<_}
 use native.Mathlib.Omega.{arith}
 use borrow.Author.Tests.{le-leb, leb-true, leb-false, lt-ltb, ltb-false}
@@ -12,22 +11,22 @@ use lib.ListN.{length}
 use Rattle.entries.specs.declared.ChangedAttr.{ChangedAttr}
 use Rattle.changes.specs.declared.ChangedAttrs.{ChangedAttrs}
 use Rattle.subscription.specs.declared.Subscription.{Subscription}
-use Rattle.lists.specs.Search.{one, some, leastBy}
-use Rattle.changes.specs.Logs.{kept, noted, purged, cleared}
+use Rattle.lists.specs.Search.{one, some}
+use Rattle.changes.specs.Logs.{noted, purged, cleared}
 use Rattle.changes.specs.Reach.{reached}
 use Rattle.rules.specs.States.{State, fresh, capacityFits, hasId, idLive, wellKept}
 use Rattle.rules.specs.Calls.{Op}
-use Rattle.rules.specs.Machine.{leastSeen, refusal, act, step}
+use Rattle.rules.specs.Machine.{leastSeen, step}
 use Rattle.rules.specs.Rounds.{isRound}
 use Rattle.heard.specs.Hearing.{isNote}
 use Rattle.rules.specs.Calls as call
 use Rattle.lists.proofs.Bools.{split, clash, or-left, or-right, or-neither}
 use Rattle.lists.proofs.Searches.{some-append}
-use Rattle.lists.proofs.Orders.{some-nil, some-cons, none-count, least-most}
+use Rattle.lists.proofs.Orders.{some-long, some-nil, some-cons, none-count, least-most}
 use Rattle.changes.proofs.Promises.{note-grows, note-keeps, purge-next, purge-keeps}
 use Rattle.rules.proofs.Acts.{act-note, act-purge, new-made, new-refused}
 use Rattle.rules.proofs.Refusals.{step-either}
-use Rattle.rules.proofs.LogKept.{touchesLog, log-kept}
+use Rattle.rules.proofs.LogKept.{log-kept}
 use Rattle.rules.proofs.Sound.{kept-sound}
 use Rattle.rules.proofs.Lives.{lives}
 use Rattle.heard.proofs.Tracked.{told, told-less}
@@ -36,10 +35,6 @@ use Rattle.heard.proofs.Tracked.{told, told-less}
 pub record Stands (k : ℕ) (q : ChangedAttr) (g : ChangedAttrs) : Type 0 where
   pub given : k < g .next
   pub still : reached g q k ≡ true
-
-some-long : {A : Type 0} (p : A → Bool) (l : List A) → some p l ≡ true → 0 < length l
-some-long p [] h = absurd (clash h (some-nil p))
-some-long p (x ∷ xs) h = omega arith
 
 module _ (i k : ℕ) (since : Bool) where
   -- whoever has not been told has seen less than k

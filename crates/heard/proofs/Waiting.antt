@@ -2,27 +2,24 @@
 -- Assumes nothing.
 use mathlib.Core.Path.{_≡_, refl, sym, ap, _∙_}
 use mathlib.Core.Logic.{_⊎_, inl, inr, ⊎-elim}
-use mathlib.Core.Bool.{Bool, true, false, not, cond, and-false, _&&_, _||_}
-use mathlib.Core.List.{List, [], _∷_}
-use Prim.Native.Nat.{ℕ, _+_, _≤_, _<_}
+use mathlib.Core.Bool.{Bool, true, false, not, cond, and-false, _&&_}
+use Prim.Native.Nat.{ℕ, _+_, _≤_}
 use native.Mathlib.Omega.{arith}
-use borrow.Author.Tests.{lt-leb, leb-true, le-ltb, eqb-true, eqb-false, eq-eqb, not-true, not-false}
-use lib.Arith.{lt-of-le-ne}
-use lib.Dec.{eqb, leb, ltb}
+use borrow.Author.Tests.{lt-leb, leb-true, le-ltb, eqb-true, eq-eqb, not-false}
+use lib.Dec.{eqb, leb}
 use Rattle.time.specs.declared.Instant.{Instant}
 use Rattle.time.specs.Instants.{lastInstant}
 use Rattle.subscription.specs.declared.Settings.{Settings}
 use Rattle.subscription.specs.declared.Subscription.{Subscription}
 use Rattle.lists.specs.Search.{one, some, count}
-use Rattle.changes.specs.Logs.{watermarkOf, anySince}
+use Rattle.changes.specs.Logs.{watermarkOf}
 use Rattle.subscription.specs.Life.{blank, closed, keeps}
 use Rattle.subscription.specs.When.{allowedOf}
 use Rattle.rules.specs.States.{State, isReport, reportOpen, hasId, wellKept}
-use Rattle.rules.specs.Machine.{badOutcome, changedFor, ready, nextUp, openedIn, reported, step}
+use Rattle.rules.specs.Machine.{badOutcome, changedFor, ready, nextUp, openedIn, reported}
 use Rattle.heard.specs.Playing.{Turn, withEvents, turned, plainOutcome, spaced, cramped, allowedBy}
-use Rattle.rules.specs.Calls as call
 use Rattle.lists.proofs.Bools.{and-both, and-true, or-either}
-use Rattle.lists.proofs.Orders.{one-yes, one-no, none-one, one-most, count-nil, count-cons, count-taken, first-meets}
+use Rattle.lists.proofs.Orders.{both-fewer, one-yes, one-no, none-one, count-taken, first-meets}
 use Rattle.subscription.proofs.Laws.{opened-id, closed-id}
 use Rattle.subscription.proofs.Watermarks.{opened-shortest, opened-longest, opened-opened, closed-shortest, closed-longest, kept-most}
 use Rattle.subscription.proofs.Spacing.{sent-waits, retry-waits, reportable-allowed}
@@ -64,16 +61,6 @@ module _ (y : Subscription) (time : y .opened .ms + 65535000 ≤ lastInstant .ms
       (λ e. rw e (lt-leb _ _ (sent-waits y time (leb-true 1 (y .shortest) (a .0)) (leb-true (y .shortest) 65535 (b .0)))))
       (λ e. rw e (lt-leb _ _ (retry-waits y time (leb-true (y .longest) 65535 (b .1)))))
       (plain-kept u h (kept-most y (u .outcome) k))
-
--- of those that p holds of, no more meet q too
-pub both-fewer : {A : Type 0} (p q : A → Bool) (l : List A) → count (λ z. p z && q z) l ≤ count p l
-both-fewer p q [] = omega (arith, count-nil p, count-nil (λ z. p z && q z))
-both-fewer p q (z ∷ zs) =
-    omega (arith, count-cons p z zs, count-cons (λ y. p y && q y) z zs, both-fewer p q zs, one-both (p z) (q z))
-  where
-    one-both : (a b : Bool) → one (a && b) ≤ one a
-    one-both true b = one-most b
-    one-both false b = omega arith
 
 -- ---- a turn
 

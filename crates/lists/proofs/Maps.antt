@@ -4,8 +4,9 @@ use mathlib.Core.Path.{_≡_, refl, ap, _∙_}
 use mathlib.Core.Bool.{Bool, _||_}
 use mathlib.Core.List.{List, [], _∷_, map}
 use Prim.Native.Nat.{ℕ, zero, suc, _+_}
+use lib.Dec.{eqb}
 use lib.ListN.{length, length-map}
-use Rattle.lists.specs.Search.{one, some, count, changeFirst, firstBy}
+use Rattle.lists.specs.Search.{one, some, count, changeFirst, firstBy, distinct}
 use Rattle.lists.specs.Removal.{lastOf, initOf, refilled, sweepFor, sweep, takeOut, takeOutNewest}
 use Rattle.lists.proofs.Bools.{split}
 
@@ -21,6 +22,12 @@ module _ {A B : Type 0} (f : A → B) where
   unfolding count
   count-map p [] = refl
   count-map p (x ∷ xs) = ap (λ n. one (p (f x)) + n) (count-map p xs)
+
+  -- numbers taken off the elements first, or on the way
+  pub distinct-map : (g : B → ℕ) (l : List A) → distinct g (map f l) ≡ distinct (λ x. g (f x)) l
+  unfolding distinct
+  distinct-map g [] = refl
+  distinct-map g (x ∷ xs) = rw (some-map (λ n. eqb (g (f x)) (g n)) xs, distinct-map g xs)
 
   pub first-map : (p : B → Bool) (d : A) (l : List A) → firstBy p (f d) (map f l) ≡ f (firstBy (λ x. p (f x)) d l)
   unfolding firstBy

@@ -1,9 +1,10 @@
 -- Laws of counting: what a removal, a change and a joining do to the number of elements that a test holds of; distinct numbers told by counts.
 -- Assumes nothing.
 use mathlib.Core.Path.{_≡_, refl, sym, ap, _∙_}
+use mathlib.Core.Logic.{⊎-elim}
 use mathlib.Core.Bool.{Bool, true, false, not, _&&_, _||_, and-true, and-false, or-assoc}
 use mathlib.Core.List.{List, [], _∷_, _++_}
-use Prim.Native.Nat.{ℕ, zero, suc, _+_, _≤_, min}
+use Prim.Native.Nat.{ℕ, zero, suc, _+_, _≤_, _<_, min}
 use native.Mathlib.Omega.{arith}
 use native.Mathlib.Nat.{le-refl, le-of-suc-le-suc, not-suc-le-zero}
 use borrow.Author.Tests.{le-leb, leb-true, lt-leb, leb-false, eqb-true, eq-eqb, lt-ltb, ltb-true, ltb-false, not-true}
@@ -13,7 +14,7 @@ use Rattle.lists.specs.Search.{one, some, count, changeFirst, firstBy, d
 use Rattle.lists.specs.Removal.{refilled, sweepFor, sweep, takeOut, takeOutNewest}
 use Rattle.lists.proofs.Bools.{split, clash, and-both, not-so}
 use Rattle.lists.proofs.Bools.{and-true as both-true}
-use Rattle.lists.proofs.Searches.{some-weaken, some-counted}
+use Rattle.lists.proofs.Searches.{some-weaken, some-by, some-counted}
 use Rattle.lists.proofs.Removals.{length-refilled, count-refilled}
 
 -- ---- 1 for yes, 0 for no
@@ -31,6 +32,10 @@ none-one false e = refl
 pub one-most : (b : Bool) → one b ≤ 1
 one-most true = omega arith
 one-most false = omega arith
+
+one-both : (a b : Bool) → one (a && b) ≤ one a
+one-both true b = one-most b
+one-both false b = omega arith
 
 -- the lesser of two numbers is at most n where one of them is
 leb-min : (a b n : ℕ) → leb (min a b) n ≡ (leb a n || leb b n)
@@ -100,6 +105,25 @@ module _ {A : Type 0} where
 
   pub none-count : (p : A → Bool) (l : List A) → count p l ≡ 0 → some p l ≡ false
   none-count p l h = some-counted p l ∙ rw h
+
+  pub some-long : (p : A → Bool) (l : List A) → some p l ≡ true → 0 < length l
+  some-long p [] h = absurd (clash h (some-nil p))
+  some-long p (x ∷ xs) h = omega arith
+
+  -- one that p holds of and q does not is one that r holds of
+  pub some-rest : (p q r : A → Bool) (l : List A) → ((x : A) → p x ≡ true → q x ≡ false → r x ≡ true) → some p l ≡ true → count q l ≡ 0
+      → some r l ≡ true
+  some-rest p q r l f h none =
+      ⊎-elim
+      (λ e. absurd (clash (some-weaken (λ x. p x && q x) q l (λ x t. and-both (p x) (q x) t .1) e) (none-count q l none)))
+      (λ e. some-weaken (λ x. p x && not (q x)) r l (λ x t. let w = and-both (p x) (not (q x)) t in f x (w .0) (not-true (q x) (w .1))) e)
+      (some-by p q l h)
+
+  -- of those that p holds of, no more meet q too
+  pub both-fewer : (p q : A → Bool) (l : List A) → count (λ z. p z && q z) l ≤ count p l
+  unfolding count
+  both-fewer p q [] = omega arith
+  both-fewer p q (z ∷ zs) = omega (arith, both-fewer p q zs, one-both (p z) (q z))
 
   -- ---- the first one that q holds of
 
@@ -203,6 +227,12 @@ module _ {A : Type 0} where
       leb-min (f x) (leastBy f m xs) n
       ∙ ap (λ b. leb (f x) n || b) (least-most f m n xs)
       ∙ sym (or-assoc (leb (f x) n) (some (λ x. leb (f x) n) xs) (leb m n))
+
+  -- a bound is never below the least
+  pub least-bound : (f : A → ℕ) (m : ℕ) (l : List A) → leastBy f m l ≤ m
+  unfolding leastBy
+  least-bound f m [] = omega arith
+  least-bound f m (x ∷ xs) = omega (arith, least-bound f m xs)
 
   -- a number more to begin with
   pub least-start : (f : A → ℕ) (m n : ℕ) (l : List A) → min m (leastBy f n l) ≡ leastBy f (min m n) l

@@ -1,22 +1,19 @@
 -- What lasts through every move lasts through every call: a whole table stays whole, and a tidy one tidy.
 -- Assumes nothing.
 use mathlib.Core.Path.{_≡_, refl, sym, ap, _∙_}
-use mathlib.Core.Bool.{true, false}
-use mathlib.Core.List.{List}
+use mathlib.Core.Bool.{true}
 use mathlib.Core.Option.{Option, none}
 use mathlib.Core.Option.{some as just}
-use Prim.Native.Nat.{ℕ, _+_, _-_, _<_}
+use Prim.Native.Nat.{ℕ, _<_}
 use native.Mathlib.Omega.{arith}
-use borrow.Author.Tests.{ltb-true, ltb-false}
+use borrow.Author.Tests.{ltb-true}
 use lib.Dec.{ltb}
-use lib.ListN.{length, getD, take, drop, length-drop}
-use lib.Seq.{length-take-le, getD-take, getD-drop, ext-getD}
+use lib.ListN.{getD}
 use Rattle.refusal.specs.declared.Refusal.{Refusal}
 use Rattle.time.specs.declared.Instant.{Instant}
 use Rattle.subscription.specs.declared.Choice.{Choice}
 use Rattle.subscription.specs.declared.Request.{Request}
 use Rattle.subscription.specs.declared.Settings.{Settings}
-use Rattle.subscription.specs.declared.Subscription.{Subscription}
 use Rattle.places.specs.declared.Table.{Table}
 use Rattle.places.specs.declared.Admitted.{Admitted}
 use Rattle.places.specs.declared.Completed.{Completed}
@@ -28,12 +25,12 @@ use Rattle.subscription.specs.Life.{blank, closed}
 use Rattle.subscription.specs.Choices.{chosen}
 use Rattle.rules.specs.Calls.{Op}
 use Rattle.rules.specs.Machine.{firstOf}
-use Rattle.places.specs.Views.{view, kept, refusalAt}
+use Rattle.places.specs.Views.{kept, refusalAt}
 use Rattle.places.specs.Tidiness.{Lasting}
 use Rattle.places.specs.Moves.{takenOut, closedAt, sweptOut, emptied}
 use Rattle.places.specs.Calls.{settledBy, noteIn, firstReady, handedOut, handOutIn, reportIn, addTo, resumeIn, staysAfter, tableAfter, openAt, endedAt, completeIn, removeIn, clearIn, purgedTable, purgeIn}
 use Rattle.rules.specs.Calls as call
-use Rattle.lists.proofs.Bools.{split, clash}
+use Rattle.lists.proofs.Bools.{split}
 use Rattle.places.proofs.Refusing.{past-kept, unkept, add-same, resume-same, room-left}
 use Rattle.places.proofs.CompletionAgrees.{open-found, at-most, at-least, closed-room}
 

@@ -6,35 +6,20 @@ use mathlib.Core.List.{List, [], _∷_, _++_, map, map-append}
 use Prim.Native.Nat.{ℕ, suc, _+_, _-_, _≤_, _<_}
 use native.Mathlib.Omega.{arith}
 use native.Mathlib.Numerals.{add-one}
-use borrow.Author.Tests.{lt-ltb, le-ltb, le-leb, lt-leb, leb-true, leb-false, ltb-true, ltb-false}
-use lib.Dec.{leb, ltb, eqb}
+use borrow.Author.Tests.{le-leb, lt-leb, leb-true, leb-false, ltb-true, ltb-false}
+use lib.Dec.{leb, ltb}
 use lib.ListN.{length, take, drop, getD, set, length-append, length-drop, length-set, List·getD-append}
 use lib.Seq.{length-take-le, take-suc, take-suc-set, drop-cons, getD-take, getD-drop, getD-append-add, take-all, drop-length}
 use Rattle.subscription.specs.declared.Subscription.{Subscription}
 use Rattle.table.specs.declared.keeping.Pass.{Pass}
-use Rattle.places.specs.declared.Table.{Table}
-use Rattle.lists.specs.Search.{one, first, some, count, distinct, leastBy}
+use Rattle.lists.specs.Search.{one, some, count}
 use Rattle.subscription.specs.Life.{blank}
 use Rattle.rules.specs.States.{isReport, fabricZero}
-use Rattle.places.specs.Views.{storedOf, opensOf, placeOf}
+use Rattle.places.specs.Views.{placeOf}
 use Rattle.table.specs.Scans.{Lived}
 use Rattle.lists.proofs.Bools.{split}
-use Rattle.lists.proofs.Searches.{first-some}
 use Rattle.lists.proofs.Orders.{count-cons}
-use Rattle.lists.proofs.Maps.{some-map}
 use Rattle.lists.proofs.Parts.{drop-next}
-
--- a bound is never below the least
-pub least-bound : {A : Type 0} (f : A → ℕ) (m : ℕ) (l : List A) → leastBy f m l ≤ m
-unfolding leastBy
-least-bound f m [] = omega arith
-least-bound f m (x ∷ xs) = omega (arith, least-bound f m xs)
-
--- numbers taken off the elements first, or on the way
-pub distinct-map : {A : Type 0} (f : A → ℕ) (l : List A) → distinct (λ n. n) (map f l) ≡ distinct f l
-unfolding distinct
-distinct-map f [] = refl
-distinct-map f (x ∷ xs) = rw (some-map f (λ n. eqb (f x) n) xs, distinct-map f xs)
 
 module _ (places : List Subscription) (s o : ℕ) (long : length places ≡ 80) (fits : s + o ≤ 80) where
   abbrev live : List Subscription

@@ -1,7 +1,6 @@
 -- `any_reportable` meets its contract: refused with 7 or served, and the scan stops within the stored ones exactly where one is reportable.
 -- Assumes nothing.
 use mathlib.Core.Path.{_≡_, sym, ap, _∙_}
-use Prim.Native.Nat.{_-_}
 use native.Mathlib.Omega.{arith}
 use borrow.Author.Tests.{not-true, not-false}
 use borrow.Author.Needs.{needs}

@@ -1,6 +1,5 @@
 -- `cancels` meets its contract: the scan of the open ones finds the report exactly where the choice takes it.
 -- Assumes nothing.
-use Prim.Native.Nat.{_-_}
 use native.Mathlib.Omega.{arith}
 use borrow.Author.Tests.{eq-eqb, ne-eqb}
 use borrow.Author.Needs.{needs}

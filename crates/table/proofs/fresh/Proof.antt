@@ -1,6 +1,5 @@
 -- `fresh` meets its contract by what `ChangedAttrs::new` ensures.
 -- Assumes nothing.
-use Prim.Native.Nat.{_-_}
 use borrow.Author.Needs.{needs}
 use Rattle.table.proofs.fresh.Statement.{statement}
 use Rattle.table.proofs.fresh.Tie as tie

@@ -1,6 +1,5 @@
 -- `is_bad_reason` meets its contract: the tests are the definition's.
 -- Assumes nothing.
-use Prim.Native.Nat.{_-_}
 use borrow.Author.Tests.{eq-eqb, ne-eqb}
 use Rattle.table.proofs.is_bad_reason.Statement.{statement}
 use Rattle.table.proofs.is_bad_reason.Tie as tie

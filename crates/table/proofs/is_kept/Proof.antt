@@ -3,7 +3,7 @@
 use mathlib.Core.List.{List, _++_, map}
 use mathlib.Core.Bool.{Bool, and-false}
 use mathlib.Core.Path.{_≡_, sym, ap, _∙_}
-use Prim.Native.Nat.{ℕ, _+_, _-_, _≤_}
+use Prim.Native.Nat.{ℕ, _+_, _≤_}
 use native.Mathlib.Omega.{arith}
 use borrow.Author.Tests.{not-true, not-false}
 use borrow.Author.Needs.{needs}
@@ -13,8 +13,9 @@ use Rattle.places.specs.declared.Table.{Table}
 use Rattle.places.specs.Views.{storedOf, opensOf}
 use Rattle.lists.specs.Search.{distinct}
 use Rattle.table.proofs.Inside.{not-within, counts-fit, within-kept}
-use Rattle.table.proofs.Steps.{distinct-map, live-length}
+use Rattle.table.proofs.Steps.{live-length}
 use Rattle.lists.proofs.Arrays.{full}
+use Rattle.lists.proofs.Maps.{distinct-map}
 use Rattle.table.proofs.is_kept.Statement.{statement}
 use Rattle.table.proofs.is_kept.Tie as tie
 
@@ -29,7 +30,7 @@ differ-is t ids all fits e f =
     f
     ∙ ap (λ n. distinct (λ n. n) (take n ids)) (sym (live-length (t .places) (t .stored) (t .opens) all fits))
     ∙ ap (distinct (λ n. n)) e
-    ∙ distinct-map (λ x. x .id) (storedOf t ++ opensOf t)
+    ∙ distinct-map (λ x. x .id) (λ n. n) (storedOf t ++ opensOf t)
 
 within-requires : tie.Need-within-requires
 within-requires c κs = search needs

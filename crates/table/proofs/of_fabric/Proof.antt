@@ -1,6 +1,5 @@
 -- `of_fabric` meets its contract: each return is a case of the definition.
 -- Assumes nothing.
-use Prim.Native.Nat.{_-_}
 use borrow.Author.Tests.{eq-eqb, ne-eqb}
 use borrow.Author.Needs.{needs}
 use Rattle.table.proofs.of_fabric.Statement.{statement}

@@ -1,7 +1,6 @@
 -- `purge_reported_changes` meets its contract: refused with 7, or what `purged` ensures.
 -- Assumes nothing.
 use mathlib.Core.Path.{sym, _∙_}
-use Prim.Native.Nat.{_-_}
 use native.Mathlib.Omega.{arith}
 use borrow.Author.Tests.{not-true, not-false}
 use borrow.Author.Needs.{needs}

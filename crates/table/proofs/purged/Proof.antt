@@ -1,6 +1,5 @@
 -- `purged` meets its contract: each return is a case of the definition, with the log's own purge or emptying.
 -- Assumes nothing.
-use Prim.Native.Nat.{_-_}
 use borrow.Author.Tests.{lt-ltb, le-ltb}
 use borrow.Author.Needs.{needs}
 use Rattle.places.specs.Calls.{purgedTable}

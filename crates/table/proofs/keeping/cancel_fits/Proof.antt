@@ -1,6 +1,5 @@
 -- `cancel_fits` meets its contract: the tests are the definition's.
 -- Assumes nothing.
-use Prim.Native.Nat.{_-_}
 use borrow.Author.Tests.{eq-eqb, ne-eqb, le-leb, lt-leb}
 use Rattle.table.proofs.keeping.cancel_fits.Statement.{statement}
 use Rattle.table.proofs.keeping.cancel_fits.Tie as tie

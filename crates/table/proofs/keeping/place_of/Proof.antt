@@ -1,6 +1,5 @@
 -- `place_of` meets its contract: the test is the definition's.
 -- Assumes nothing.
-use Prim.Native.Nat.{_-_}
 use borrow.Author.Tests.{lt-ltb, le-ltb}
 use borrow.Author.Needs.{needs}
 use Rattle.table.proofs.keeping.place_of.Statement.{statement}

@@ -1,9 +1,9 @@
 -- `ended` meets its contract: the two ways meet behind the flag, and on each the table is the definition's.
 -- Assumes nothing.
-use mathlib.Core.Path.{_≡_, refl, sym, _∙_}
+use mathlib.Core.Path.{_≡_, sym, _∙_}
 use mathlib.Core.Bool.{Bool, cond}
 use mathlib.Core.Logic.{⊎-elim}
-use Prim.Native.Nat.{ℕ, _-_}
+use Prim.Native.Nat.{ℕ}
 use borrow.Author.Needs.{needs}
 use lib.ListN.{getD}
 use Rattle.subscription.specs.declared.Subscription.{Subscription}
@@ -11,7 +11,7 @@ use Rattle.places.specs.declared.Table.{Table}
 use Rattle.places.specs.declared.Completion.the-variants as completion
 use Rattle.subscription.specs.Life.{blank, failed, closed}
 use Rattle.places.specs.Moves.{withReason, storedLast, closedAt}
-use Rattle.places.specs.Calls.{staysAfter, tableAfter, endedAt}
+use Rattle.places.specs.Calls.{staysAfter, endedAt}
 use Rattle.table.proofs.moves.ended.Statement.{statement}
 use Rattle.table.proofs.moves.ended.Tie as tie
 

@@ -1,7 +1,5 @@
 -- `handed` meets its contract: three stores, one stored one fewer and one open one more.
 -- Assumes nothing.
-use mathlib.Core.Path.{_≡_, refl}
-use Prim.Native.Nat.{_-_}
 use borrow.Author.Needs.{needs}
 use Rattle.places.specs.Calls.{handedOut}
 use Rattle.places.specs.Moves.{takenOut, openedUp}

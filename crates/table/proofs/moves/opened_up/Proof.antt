@@ -1,7 +1,6 @@
 -- `opened_up` meets its contract: a store at the far end, and one open one more.
 -- Assumes nothing.
 use mathlib.Core.Path.{refl}
-use Prim.Native.Nat.{_-_}
 use borrow.Author.Needs.{needs}
 use Rattle.places.specs.Moves.{openedUp}
 use Rattle.table.proofs.moves.opened_up.Statement.{statement}

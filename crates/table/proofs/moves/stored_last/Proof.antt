@@ -1,7 +1,6 @@
 -- `stored_last` meets its contract: a store behind the last stored one, and one stored one more.
 -- Assumes nothing.
 use mathlib.Core.Path.{refl}
-use Prim.Native.Nat.{_-_}
 use borrow.Author.Needs.{needs}
 use Rattle.places.specs.Moves.{storedLast}
 use Rattle.table.proofs.moves.stored_last.Statement.{statement}

@@ -1,6 +1,5 @@
 -- `is_served` meets its contract: the tests are the definition's, in its order.
 -- Assumes nothing.
-use Prim.Native.Nat.{_-_}
 use borrow.Author.Tests.{eq-eqb, ne-eqb}
 use Rattle.places.specs.Tests.{served}
 use Rattle.table.proofs.scans.is_served.Statement.{statement}

@@ -2,7 +2,6 @@
 -- Assumes nothing.
 use mathlib.Core.Bool.{_&&_}
 use mathlib.Core.Path.{sym, ap, _∙_}
-use Prim.Native.Nat.{_-_}
 use borrow.Author.Needs.{needs}
 use Rattle.places.specs.Tests.{struck}
 use Rattle.subscription.specs.Choices.{chosen}

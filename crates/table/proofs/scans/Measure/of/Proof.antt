@@ -1,6 +1,5 @@
 -- `of` meets its contract: each arm is the measure that the rule stands for.
 -- Assumes nothing.
-use Prim.Native.Nat.{_-_}
 use borrow.Author.Needs.{needs}
 use Rattle.places.specs.Tests.{nextBy, icdDue, seenOf}
 use Rattle.table.proofs.scans.Measure.of.Statement.{statement}

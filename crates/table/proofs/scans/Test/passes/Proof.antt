@@ -1,6 +1,5 @@
 -- `passes` meets its contract: each arm is the test that the rule stands for.
 -- Assumes nothing.
-use Prim.Native.Nat.{_-_}
 use borrow.Author.Needs.{needs}
 use Rattle.places.specs.Tests.{readyBy, ofFabric}
 use Rattle.rules.specs.States.{hasId}
