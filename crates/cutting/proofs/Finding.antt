@@ -12,7 +12,7 @@ use lib.ListN.{length, length-append, length-set, take, set}
 use lib.Seq.{take-nil, take-suc-set}
 use borrow.Author.Tests.{eq-eqb, ne-eqb, eqb-true, eqb-false, leb-true, leb-false}
 use Rattle.fields.specs.Bytes.{CR, LF}
-use Rattle.cutting.specs.Cuts.{onto, cut, holdsLone, Text, whole, bad, judge, textsOf}
+use Rattle.cutting.specs.Cuts.{onto, cut, holdsLone, Text, bad, judge, textsOf}
 use Rattle.cutting.specs.Steps.{freshOf, spoiltOf, waitingOf, holdingOf, endingOf, textIn, found, after, foundIn}
 use Rattle.cutting.specs.declared.Reading.{Reading}
 use Rattle.cutting.proofs.Steps.{step-stopped, step-ended, step-lone-LF, step-lone-CR, step-waits, step-behind, step-held, step-full, close-stopped, close-CR, close-bad, close-none, close-whole, found-next}

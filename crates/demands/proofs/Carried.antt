@@ -14,11 +14,11 @@ use Rattle.places.specs.declared.Table.{Table}
 use Rattle.lists.specs.Search.{some}
 use Rattle.rules.specs.States.{fresh, capacityFits}
 use Rattle.rules.specs.Calls.{Op}
-use Rattle.rules.specs.Machine.{firstOf, nextInstantIn, step, run}
+use Rattle.rules.specs.Machine.{firstOf, step, run}
 use Rattle.rules.specs.Histories.{isNew}
 use Rattle.rules.specs.Counts.{admissions, resumptions, endings}
 use Rattle.rules.specs.Numbers.{valuesOf}
-use Rattle.places.specs.Views.{view, storedOf, freshTable}
+use Rattle.places.specs.Views.{storedOf, freshTable}
 use Rattle.demands.specs.Histories.{replyTo, tableAfter}
 use Rattle.rules.specs.Calls as call
 use Rattle.rules.proofs.Clauses.{statistics-objects, refusal-kept, first-none}

@@ -1,22 +1,18 @@
 -- The code goes as the machine goes: on every history of a whole, well-kept table each answer is the machine's, and the table stands for the
 -- machine's state. Every table of a history from a fresh one is tidy, so that the state tells the table.
 -- Assumes nothing.
-use mathlib.Core.Path.{_≡_, refl, sym, ap, _∙_}
+use mathlib.Core.Path.{_≡_, sym, ap, _∙_}
 use mathlib.Core.Bool.{true, false}
 use mathlib.Core.List.{List, [], _∷_}
 use Prim.Native.Nat.{ℕ}
-use Rattle.answers.specs.declared.Change.{Change}
-use Rattle.answers.specs.declared.Change.the-variants as change
 use Rattle.places.specs.declared.Table.{Table}
 use Rattle.lists.specs.Search.{some}
-use Rattle.rules.specs.States.{State, capacityFits, fresh, wellKept}
-use Rattle.rules.specs.Calls.{Op, Answer}
+use Rattle.rules.specs.States.{capacityFits, fresh, wellKept}
+use Rattle.rules.specs.Calls.{Op}
 use Rattle.rules.specs.Machine.{outcome, step, run, answers}
 use Rattle.rules.specs.Histories.{refusedBy}
 use Rattle.places.specs.Views.{view, kept, freshTable}
-use Rattle.places.specs.Tidiness.{Whole, Tidy, Lasting}
-use Rattle.places.specs.Calls.{newTable}
-use Rattle.places.specs.Agreement.{newLeaves}
+use Rattle.places.specs.Tidiness.{Whole, Lasting}
 use Rattle.demands.specs.Histories.{replyTo, tableAfter, replies}
 use Rattle.rules.specs.Calls as call
 use Rattle.rules.proofs.Acts.{run-none, run-more, answers-none, answers-more}

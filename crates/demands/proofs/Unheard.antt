@@ -1,11 +1,11 @@
 -- Demand 3 of the code: its histories and rounds go as the machine's, of which it is proved in crate heard.
 -- Assumes nothing.
 use mathlib.Core.Path.{_≡_, refl, sym, ap, _∙_, subst}
-use mathlib.Core.Bool.{true, false, _&&_}
+use mathlib.Core.Bool.{true, _&&_}
 use mathlib.Core.List.{List, [], _∷_, map}
 use mathlib.Core.Option.{Option, none}
 use mathlib.Core.Option.{some as just}
-use Prim.Native.Nat.{ℕ, _+_, _<_}
+use Prim.Native.Nat.{ℕ, _<_}
 use native.Mathlib.Omega.{arith}
 use lib.Dec.{eqb}
 use lib.ListN.{length}
@@ -19,7 +19,7 @@ use Rattle.lists.specs.Search.{some, distinct}
 use Rattle.rules.specs.States.{State, fresh, capacityFits, hasId, idLive, wellKept}
 use Rattle.rules.specs.Calls.{Op}
 use Rattle.rules.specs.Machine.{refusal, step, run}
-use Rattle.rules.specs.Numbers.{numberIn, codeOf, refusalOf}
+use Rattle.rules.specs.Numbers.{numberIn, codeOf}
 use Rattle.rules.specs.Rounds.{handedId}
 use Rattle.heard.specs.Hearing.{unheard}
 use Rattle.heard.specs.Playing.{asCall, Turn, withEvents, saysNothing, nobody, whom, bare, allowedBy}
@@ -35,7 +35,6 @@ use Rattle.rules.specs.Calls as call
 use Rattle.lists.proofs.Bools.{split}
 use Rattle.rules.proofs.Refusals.{same-refusal}
 use Rattle.places.proofs.Tidying.{whole-lasts}
-use Rattle.places.proofs.NewAgrees.{fresh-view}
 use Rattle.heard.proofs.Playing.{play-nil, play-nobody, play-somebody}
 use Rattle.heard.proofs.Unheard.{unheard-stays-yes}
 use Rattle.heard.proofs.Rounds.{round-nobody-twice, round-hears, round-call-plays}

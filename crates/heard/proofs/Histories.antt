@@ -3,27 +3,23 @@
 use mathlib.Core.Path.{_≡_, refl, sym, ap, _∙_}
 use mathlib.Core.Bool.{Bool, true, false, not, _&&_, _||_}
 use mathlib.Core.List.{List, [], _∷_}
-use mathlib.Core.Option.{none}
-use Prim.Native.Nat.{ℕ, _+_, _≤_, _<_}
+use Prim.Native.Nat.{ℕ, _+_, _<_}
 use native.Mathlib.Omega.{arith}
 use native.Mathlib.Nat.{add-zero, add-assoc}
 use borrow.Author.Tests.{leb-false, not-true}
-use lib.Dec.{leb}
 use Rattle.refusal.specs.declared.Refusal.the-variants.{NotOpen}
 use Rattle.entries.specs.declared.ChangedAttr.{ChangedAttr}
-use Rattle.subscription.specs.declared.Subscription.{Subscription}
 use Rattle.lists.specs.Search.{one, some, count}
 use Rattle.entries.specs.Paths.{entry, covers}
-use Rattle.changes.specs.Logs.{changedSince}
 use Rattle.time.specs.Instants.{neverReported}
 use Rattle.subscription.specs.Life.{blank}
 use Rattle.rules.specs.States.{State, fresh, capacityFits, hasId, idLive, wellKept}
 use Rattle.rules.specs.Calls.{Op}
-use Rattle.rules.specs.Machine.{firstOf, openWith, outcome, refusal, step, run}
+use Rattle.rules.specs.Machine.{firstOf, openWith, refusal, step, run}
 use Rattle.rules.specs.Rounds.{isRound, plainly}
 use Rattle.heard.specs.Hearing.{isNote, notesIn, handsOut, endsHeard, acts, unheardBy}
 use Rattle.rules.specs.Calls as call
-use Rattle.lists.proofs.Bools.{split, and-both, and-left, or-neither, or-right}
+use Rattle.lists.proofs.Bools.{and-both, and-left, or-neither, or-right}
 use Rattle.lists.proofs.Orders.{some-cons, count-cons, count-nil, none-one, count-taken-newest, first-meets}
 use Rattle.entries.proofs.Covering.{covers-self, path-covers}
 use Rattle.changes.proofs.Promises.{note-new, note-grows, reached-changed, came-next}

@@ -1,26 +1,24 @@
 -- A history with few notes: every state of it is well kept, identities have not started again, and nobody has seen, or opened with, what is not
 -- given yet.
 -- Assumes nothing.
-use mathlib.Core.Path.{_≡_, refl, sym, ap, _∙_}
+use mathlib.Core.Path.{_≡_, refl, ap}
 use mathlib.Core.Logic.{_⊎_, inl, inr, ⊎-elim}
 use mathlib.Core.Bool.{Bool, true, false, cond, _||_}
-use mathlib.Core.List.{List, [], _∷_}
-use mathlib.Core.Option.{none}
 use Prim.Native.Nat.{ℕ, _+_, _≤_, _<_}
 use native.Mathlib.Omega.{arith}
 use borrow.Author.Tests.{leb-true, leb-false, le-leb, lt-leb}
 use lib.Dec.{eqb, leb, ltb}
 use lib.ListN.{length}
 use Rattle.subscription.specs.declared.Subscription.{Subscription}
-use Rattle.lists.specs.Search.{one, some, count}
-use Rattle.changes.specs.Logs.{kept, watermarkOf, noted, purged, cleared, freshLog}
+use Rattle.lists.specs.Search.{one}
+use Rattle.changes.specs.Logs.{watermarkOf, purged, cleared}
 use Rattle.changes.specs.Reach.{fresh as new-log}
 use Rattle.subscription.specs.Life.{priming, resumed, closed}
 use Rattle.rules.specs.States.{State, fresh, capacityFits, wellKept}
 use Rattle.rules.specs.Calls.{Op}
-use Rattle.rules.specs.Machine.{Outcome, leastSeen, nextUp, openedIn, openWith, step, run}
-use Rattle.rules.specs.Rounds.{isRound, plainly}
-use Rattle.heard.specs.Hearing.{isNote, notesIn}
+use Rattle.rules.specs.Machine.{Outcome, leastSeen, nextUp, openedIn, openWith, step}
+use Rattle.rules.specs.Rounds.{isRound}
+use Rattle.heard.specs.Hearing.{isNote}
 use Rattle.rules.specs.Calls as call
 use Rattle.lists.proofs.Bools.{split, or-left, or-right, or-either, or-neither}
 use Rattle.lists.proofs.Orders.{count-nil}

@@ -4,9 +4,6 @@ use mathlib.Core.Path.{_≡_, refl}
 use mathlib.Core.Bool.{true, false}
 use mathlib.Core.List.{List, [], _∷_}
 use Prim.Native.Nat.{ℕ, _+_}
-use Rattle.time.specs.declared.KeepAlive.the-variants.{Default}
-use Rattle.subscription.specs.declared.Request.{Request}
-use Rattle.subscription.specs.declared.Settings.{Settings}
 use Rattle.lists.specs.Search.{some}
 use Rattle.time.specs.Instants.{instant}
 use Rattle.rules.specs.States.{State, fresh, reportOpen, idLive}

@@ -1,25 +1,22 @@
 -- A note that one subscription has not heard of: the log stands for it, and the subscription has seen less. Both last while it is unheard.
 -- Assumes nothing.
-use mathlib.Core.Path.{_≡_, refl, sym, ap, _∙_}
+use mathlib.Core.Path.{_≡_, sym, ap, _∙_}
 use mathlib.Core.Bool.{Bool, true, false, not, cond, and-false, _&&_, _||_}
-use mathlib.Core.List.{List, [], _∷_}
-use mathlib.Core.Option.{Option, none}
-use mathlib.Core.Option.{some as just}
-use Prim.Native.Nat.{ℕ, _+_, _≤_, _<_}
+use mathlib.Core.List.{[]}
+use mathlib.Core.Option.{none}
+use Prim.Native.Nat.{ℕ, _≤_, _<_}
 use native.Mathlib.Omega.{arith}
 use borrow.Author.Tests.{le-leb, lt-leb, eqb-true, eqb-false, eq-eqb}
 use lib.Arith.{lt-of-le-ne}
 use lib.Dec.{eqb, leb}
-use Rattle.entries.specs.declared.ChangedAttr.{ChangedAttr}
 use Rattle.subscription.specs.declared.Settings.{Settings}
 use Rattle.subscription.specs.declared.Subscription.{Subscription}
 use Rattle.lists.specs.Search.{some}
 use Rattle.changes.specs.Logs.{watermarkOf}
-use Rattle.changes.specs.Reach.{reached}
 use Rattle.subscription.specs.Life.{priming, resumed, closed, keeps}
 use Rattle.rules.specs.States.{State, hasId, idLive}
 use Rattle.rules.specs.Calls.{Op}
-use Rattle.rules.specs.Machine.{refusal, act, step, ready, nextUp, openedIn, openWith, reported}
+use Rattle.rules.specs.Machine.{refusal, step, ready, nextUp, openedIn, openWith}
 use Rattle.rules.specs.Rounds.{isRound, handedId}
 use Rattle.heard.specs.Hearing.{handsOut, endsHeard, acts}
 use Rattle.rules.specs.Calls as call

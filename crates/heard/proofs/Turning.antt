@@ -1,10 +1,9 @@
 -- One turn of a round: somebody is handed out, notes and purges come and go, and the report ends. What it leaves stored is told by counts.
 -- Assumes nothing.
-use mathlib.Core.Path.{_≡_, refl, sym, ap, _∙_}
-use mathlib.Core.Bool.{Bool, true, false, not, cond, _&&_, _||_}
+use mathlib.Core.Path.{_≡_, refl, ap, _∙_}
+use mathlib.Core.Bool.{Bool, true, false, not, cond}
 use mathlib.Core.List.{List, [], _∷_, _++_, map}
-use mathlib.Core.Option.{none}
-use Prim.Native.Nat.{ℕ, _+_}
+use Prim.Native.Nat.{_+_}
 use native.Mathlib.Omega.{arith}
 use borrow.Author.Tests.{eq-eqb}
 use Rattle.refusal.specs.declared.Refusal.the-variants.{BadArgument, NotOpen}
@@ -14,14 +13,14 @@ use Rattle.lists.specs.Search.{one, some, count, firstBy}
 use Rattle.lists.specs.Removal.{takeOut, takeOutNewest}
 use Rattle.changes.specs.Logs.{watermarkOf}
 use Rattle.subscription.specs.Life.{blank, closed, keeps}
-use Rattle.rules.specs.States.{State, reportOpen, hasId, wellKept}
-use Rattle.rules.specs.Machine.{firstOf, refusal, badOutcome, ready, nextUp, openedIn, reported, openWith, stays, cancelled, storedAfter, act, step, run}
+use Rattle.rules.specs.States.{State, hasId, wellKept}
+use Rattle.rules.specs.Machine.{firstOf, badOutcome, ready, nextUp, openedIn, reported, openWith, stays, cancelled, storedAfter, act, step}
 use Rattle.heard.specs.Playing.{Between, noting, purging, asCall, between, Turn, turned}
 use Rattle.rules.specs.Calls as call
-use Rattle.lists.proofs.Bools.{split, and-right, or-left}
+use Rattle.lists.proofs.Bools.{and-right, or-left}
 use Rattle.lists.proofs.Orders.{some-cons, in-front, newest-out, count-taken, count-end}
 use Rattle.subscription.proofs.Laws.{opened-id}
-use Rattle.rules.proofs.Clauses.{has-id-is, complete-objects, refusal-kept, first-passed, first-none, report-open-is}
+use Rattle.rules.proofs.Clauses.{has-id-is, complete-objects, refusal-kept, first-passed, first-none}
 use Rattle.rules.proofs.Acts.{act-note, act-purge, act-complete, reported-one, run-none, run-more}
 use Rattle.rules.proofs.Refusals.{step-either, unrefused-acts}
 use Rattle.rules.proofs.Kept.{step-well-kept, run-well-kept}

@@ -1,10 +1,10 @@
 -- "No change goes unheard.": the first half of demand 3, by following the note from where it was made.
 -- Assumes nothing.
-use mathlib.Core.Path.{_≡_, refl}
-use Prim.Native.Nat.{_+_, _<_}
+use mathlib.Core.Path.{refl}
+use Prim.Native.Nat.{_+_}
 use native.Mathlib.Omega.{arith}
 use Rattle.entries.specs.Paths.{entry}
-use Rattle.rules.specs.States.{State, fresh}
+use Rattle.rules.specs.States.{fresh}
 use Rattle.rules.specs.Machine.{run}
 use Rattle.heard.specs.Demand.{noted, UnheardStaysYes}
 use Rattle.heard.specs.Hearing.{notesIn}

@@ -11,7 +11,7 @@ use Rattle.subscription.specs.declared.Request.{Request}
 use Rattle.subscription.specs.declared.Settings.{Settings}
 use Rattle.lists.specs.Search.{some}
 use Rattle.time.specs.Instants.{instant}
-use Rattle.rules.specs.States.{State, fresh}
+use Rattle.rules.specs.States.{fresh}
 use Rattle.rules.specs.Calls.{Op}
 use Rattle.rules.specs.Machine.{step, run}
 use Rattle.rules.specs.Rounds.{callsOf, callsFor, plainly}

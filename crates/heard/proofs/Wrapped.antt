@@ -1,16 +1,14 @@
 -- The bound on the notes is needed: with the 2^64th note of one path identities have come round, and a subscription that has not heard of the
 -- change is told that there is none. Told by a law over n notes, and not by computing them.
 -- Assumes nothing.
-use mathlib.Core.Path.{_≡_, refl, sym, ap, _∙_}
-use mathlib.Core.Bool.{Bool, true, false, not, _&&_, _||_}
+use mathlib.Core.Path.{_≡_, refl, ap, _∙_}
+use mathlib.Core.Bool.{true, false}
 use mathlib.Core.List.{List, [], _∷_, _++_}
-use mathlib.Core.Option.{none}
-use Prim.Native.Nat.{ℕ, zero, suc, _+_, _≤_, _<_}
+use Prim.Native.Nat.{ℕ, zero, suc, _+_, _<_}
 use native.Mathlib.Omega.{arith}
 use native.Mathlib.Nat.{add-zero}
 use borrow.Author.Tests.{ne-eqb}
 use lib.Dec.{eqb}
-use Rattle.changes.specs.declared.ChangedAttrs.{ChangedAttrs}
 use Rattle.lists.specs.Search.{some, count}
 use Rattle.entries.specs.Paths.{entry}
 use Rattle.changes.specs.Logs.{holding, kept, identityAfter, entriesOf}
@@ -27,7 +25,7 @@ use Rattle.rules.specs.Calls as call
 use Rattle.lists.proofs.Orders.{some-nil, count-nil, count-cons, count-append}
 use Rattle.changes.proofs.Promises.{entries-held, next-held, note-answer, after-last, after-others}
 use Rattle.rules.proofs.Clauses.{note-objects, refusal-kept, first-none}
-use Rattle.rules.proofs.Acts.{act-note, run-none, run-more}
+use Rattle.rules.proofs.Acts.{act-note, run-more}
 use Rattle.rules.proofs.Refusals.{unrefused-acts}
 use Rattle.rules.proofs.Computing.{allRules}
 use Rattle.heard.proofs.Witness.{request, at}

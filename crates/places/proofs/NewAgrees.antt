@@ -1,7 +1,7 @@
 -- A new table is the machine's: fresh, or refused for its capacity alone, and then the one that was there stays.
 -- Assumes nothing.
 use mathlib.Core.Path.{_≡_, sym, ap, _∙_}
-use mathlib.Core.Bool.{true}
+use mathlib.Core.Bool.{true, false}
 use mathlib.Core.List.{[]}
 use Prim.Native.Nat.{ℕ, _-_}
 use native.Mathlib.Omega.{arith}
@@ -10,11 +10,12 @@ use Rattle.places.specs.declared.Table.{Table}
 use Rattle.subscription.specs.Life.{blank}
 use Rattle.rules.specs.States.{capacityFits, fresh}
 use Rattle.rules.specs.Machine.{outcome, withOnes, step}
-use Rattle.places.specs.Views.{freshTable, view}
+use Rattle.places.specs.Views.{freshTable, view, kept}
 use Rattle.places.specs.Calls.{newTable}
 use Rattle.places.specs.Agreement.{newSays, newLeaves}
 use Rattle.rules.specs.Calls as call
 use Rattle.lists.proofs.Bools.{split}
+use Rattle.rules.proofs.Clauses.{well-kept-is}
 use Rattle.rules.proofs.Acts.{new-made, new-refused}
 
 -- a fresh table stands for a fresh state
@@ -26,6 +27,15 @@ fresh-view capacity =
 pub new-makes : (capacity : ℕ) → capacityFits capacity ≡ true → newTable capacity .table ≡ freshTable capacity
 unfolding newTable
 new-makes capacity h = rw (h, newTable)
+
+-- and any other makes one that every call refuses with 7
+no-capacity : kept (freshTable 0) ≡ false
+unfolding kept
+no-capacity = well-kept-is (view (freshTable 0))
+
+pub refused-unkept : (capacity : ℕ) → capacityFits capacity ≡ false → kept (newTable capacity .table) ≡ false
+unfolding newTable
+refused-unkept capacity h = rw (h, newTable) no-capacity
 
 pub new-agrees : (t : Table) (capacity : ℕ) → newSays t (newTable capacity) ≡ step (call.new capacity) (view t)
 unfolding newTable

@@ -13,7 +13,7 @@ use Rattle.round.specs.declared.Served.{Served}
 use Rattle.round.specs.declared.Turn.{Turn}
 use Rattle.lists.specs.Search.{some}
 use Rattle.rules.specs.States.{reportOpen, wellKept}
-use Rattle.rules.specs.Machine.{Turn as Stand, outcome, badOutcome, ready, nextUp, reported, completedIn, turned, roundFrom, step}
+use Rattle.rules.specs.Machine.{Turn as Stand, outcome, badOutcome, ready, nextUp, reported, turned, roundFrom, step}
 use Rattle.rules.specs.Rounds.{handedId}
 use Rattle.places.specs.Views.{view, kept}
 use Rattle.places.specs.Tidiness.{Whole}

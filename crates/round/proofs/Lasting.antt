@@ -1,7 +1,5 @@
 -- What lasts through every move of the table lasts through a round, which is the table's calls.
 -- Assumes nothing.
-use mathlib.Core.Path.{_≡_}
-use mathlib.Core.Bool.{true, false}
 use mathlib.Core.List.{List, [], _∷_}
 use mathlib.Core.Option.{Option, none}
 use mathlib.Core.Option.{some as just}

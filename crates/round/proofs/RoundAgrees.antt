@@ -1,7 +1,7 @@
 -- A round of a well-kept table is the machine's at the state that the table stands for: the same answer, the same ids, the same state.
 -- Assumes nothing.
 use mathlib.Core.Path.{_≡_, refl, sym, ap, _∙_}
-use mathlib.Core.Bool.{true, false, not}
+use mathlib.Core.Bool.{true, not}
 use mathlib.Core.List.{List}
 use mathlib.Core.Option.{none}
 use Prim.Native.Nat.{ℕ}
@@ -21,7 +21,7 @@ use Rattle.rules.proofs.Clauses.{round-objects}
 use Rattle.rules.proofs.Objections.{unobjected}
 use Rattle.places.proofs.Agreeing.{agreeing}
 use Rattle.places.proofs.Refusing.{state-kept, kept-counts, past-kept}
-use Rattle.round.proofs.Agreeing.{Fine, Ends, standOf, still-silent, not-silent, serve-agrees}
+use Rattle.round.proofs.Agreeing.{Fine, still-silent, not-silent, serve-agrees}
 
 -- "whether nothing stored is reportable then"
 silence-agrees : (at : Settings) (t : Table) → Fine t → isSilent t at ≡ not (some (ready at (view t)) (view t .stored))

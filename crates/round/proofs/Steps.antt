@@ -1,12 +1,11 @@
 -- One turn of the round's loops, over plain lists: what is left to do after it.
 -- Assumes nothing.
-use mathlib.Core.Path.{_≡_, refl, _∙_}
+use mathlib.Core.Path.{_≡_}
 use mathlib.Core.Bool.{true, false}
 use mathlib.Core.List.{List}
 use Prim.Native.Nat.{ℕ, _+_, _≤_, _<_}
 use native.Mathlib.Numerals.{add-one}
 use borrow.Author.Tests.{lt-ltb, le-ltb}
-use lib.Dec.{ltb}
 use lib.ListN.{length, drop, getD, set, drop-of-length-le}
 use lib.Seq.{drop-cons}
 use Rattle.subscription.specs.declared.Settings.{Settings}

@@ -5,7 +5,7 @@ use mathlib.Core.Path.{_≡_, refl}
 use mathlib.Core.List.{List, [], _∷_, _++_}
 use mathlib.Core.Option.{none}
 use mathlib.Core.Option.{some as just}
-use Prim.Native.Nat.{_-_, ℕ, _+_}
+use Prim.Native.Nat.{_-_, ℕ}
 use lib.Dec.{eqb, ltb}
 use lib.ListN.{length}
 use Rattle.refusal.specs.declared.Refusal.the-variants.{BadArgument}

@@ -2,15 +2,15 @@
 -- in, hands out or stores again does not. What holds of one subscription through its life is told by this and by nothing else.
 -- Assumes nothing.
 use mathlib.Core.Path.{_≡_, refl, sym, ap, _∙_}
-use mathlib.Core.Bool.{Bool, true, false, not, cond, _&&_}
+use mathlib.Core.Bool.{Bool, true, false, not, cond}
 use mathlib.Core.List.{List, [], _∷_}
 use mathlib.Core.Option.{none}
-use Prim.Native.Nat.{ℕ, _+_}
+use Prim.Native.Nat.{ℕ}
 use native.Mathlib.Omega.{arith}
 use borrow.Author.Tests.{not-false}
 use Rattle.lists.specs.Search.{one, some}
 use Rattle.lists.proofs.Bools.{split, and-right, or-neither}
-use Rattle.lists.proofs.Orders.{count-nil, count-none, none-count, none-counted, one-no, none-one, some-nil, some-cons, count-taken, count-taken-newest, first-meets}
+use Rattle.lists.proofs.Orders.{count-nil, none-count, none-counted, one-no, none-one, some-cons, count-taken, count-taken-newest, first-meets}
 use Rattle.changes.specs.Logs.{watermarkOf}
 use Rattle.subscription.specs.declared.Subscription.{Subscription}
 use Rattle.subscription.specs.Life.{blank, priming, resumed, closed, keeps}

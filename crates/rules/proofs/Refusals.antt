@@ -5,7 +5,6 @@ use mathlib.Core.Path.{_≡_, refl}
 use mathlib.Core.Bool.{not, _&&_}
 use mathlib.Core.Option.{Option, none}
 use mathlib.Core.Option.{some as just}
-use Prim.Native.Nat.{ℕ}
 use Rattle.refusal.specs.declared.Refusal.{Refusal}
 use Rattle.lists.proofs.Bools.{split}
 use Rattle.rules.specs.States.{State, wellKept}

@@ -1,17 +1,16 @@
 -- Who has just spoken waits: after a report that was sent or is to be tried again, the next one is not allowed at the same instant. And who is
 -- allowed and has a change pending is reportable.
 -- Assumes nothing.
-use mathlib.Core.Path.{_≡_, refl, sym, ap, _∙_}
+use mathlib.Core.Path.{_≡_, refl, ap}
 use mathlib.Core.Bool.{Bool, true, false, _&&_, _||_}
-use Prim.Native.Nat.{ℕ, _+_, _*_, _≤_, _<_, max}
+use Prim.Native.Nat.{ℕ, _+_, _≤_, _<_}
 use native.Mathlib.Omega.{arith}
 use borrow.Author.Tests.{ne-eqb}
-use lib.Dec.{eqb, leb}
+use lib.Dec.{leb}
 use Rattle.time.specs.declared.Instant.{Instant}
 use Rattle.time.specs.declared.KeepAlive.{KeepAlive}
 use Rattle.time.specs.Instants.{lastInstant, neverReported}
-use Rattle.time.specs.Intervals.{backoffSecs}
-use Rattle.time.specs.Moments.{sinceReport, retryAt}
+use Rattle.time.specs.Moments.{sinceReport}
 use Rattle.time.proofs.Laws.{backoff-least, backoff-most, since-within, retry-within}
 use Rattle.subscription.specs.declared.Subscription.{Subscription}
 use Rattle.subscription.specs.When.{gateOf, allowedOf, isDue, pending, along, reportable}

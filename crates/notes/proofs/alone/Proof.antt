@@ -1,6 +1,5 @@
 -- `alone` meets its contract: a store at the front, and one entry.
 -- Assumes nothing.
-use Prim.Native.Nat.{_-_}
 use native.Mathlib.Omega.{arith}
 use borrow.Author.Needs.{needs}
 use lib.Seq.{take-suc-set}

@@ -1,6 +1,5 @@
 -- `group_of` meets its contract: each arm is a case of what `coarsen` ensures.
 -- Assumes nothing.
-use Prim.Native.Nat.{_-_}
 use borrow.Author.Needs.{needs}
 use Rattle.notes.specs.Notes.{groupOf}
 use Rattle.notes.proofs.group_of.Statement.{statement}

@@ -1,7 +1,6 @@
 -- `insert` meets its contract: the two returns are the two cases of `placed`, since `find` tells whether some entry covers the note.
 -- Assumes nothing.
 use mathlib.Core.Path.{sym, _∙_}
-use Prim.Native.Nat.{_-_}
 use native.Mathlib.Omega.{arith}
 use borrow.Author.Tests.{lt-ltb, le-ltb}
 use borrow.Author.Needs.{needs}

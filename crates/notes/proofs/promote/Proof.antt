@@ -1,6 +1,5 @@
 -- `promote` meets its contract. It has room for the coarser entry, since at least two entries went.
 -- Assumes nothing.
-use Prim.Native.Nat.{_-_}
 use native.Mathlib.Omega.{arith}
 use borrow.Author.Needs.{needs}
 use Rattle.notes.specs.Places.{listed}

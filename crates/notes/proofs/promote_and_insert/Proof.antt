@@ -2,7 +2,7 @@
 -- so that there is room for the note.
 -- Assumes nothing.
 use mathlib.Core.Path.{ap, _∙_}
-use Prim.Native.Nat.{_-_, _≤_}
+use Prim.Native.Nat.{_≤_}
 use native.Mathlib.Omega.{arith}
 use borrow.Author.Needs.{needs}
 use lib.ListN.{length}

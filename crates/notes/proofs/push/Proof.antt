@@ -1,6 +1,5 @@
 -- `push` meets its contract: a store behind the last entry, and one entry more.
 -- Assumes nothing.
-use Prim.Native.Nat.{_-_}
 use native.Mathlib.Omega.{arith}
 use borrow.Author.Needs.{needs}
 use lib.ListN.{length-set}

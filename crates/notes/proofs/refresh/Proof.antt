@@ -1,6 +1,5 @@
 -- `refresh` meets its contract: a store among the entries.
 -- Assumes nothing.
-use Prim.Native.Nat.{_-_}
 use native.Mathlib.Omega.{arith}
 use borrow.Author.Needs.{needs}
 use lib.ListN.{length-set}

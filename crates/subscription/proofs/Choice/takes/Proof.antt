@@ -1,6 +1,5 @@
 -- `takes` meets its contract: each arm is a case of the definition.
 -- Assumes nothing.
-use Prim.Native.Nat.{_-_}
 use borrow.Author.Tests.{eq-eqb, ne-eqb}
 use borrow.Author.Needs.{needs}
 use Rattle.subscription.specs.Choices.{chosen}

@@ -1,6 +1,5 @@
 -- `close` meets its contract: each return is a case of the definition, by the outcome, with what `next_fails`, `retry_at` and `stored` ensure.
 -- Assumes nothing.
-use Prim.Native.Nat.{_-_}
 use borrow.Author.Tests.{eq-eqb, ne-eqb}
 use borrow.Author.Needs.{needs}
 use Rattle.subscription.specs.Life.{closed}

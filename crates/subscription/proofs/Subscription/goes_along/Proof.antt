@@ -1,6 +1,5 @@
 -- `goes_along` meets its contract: each return is a case of the definition, by the flag.
 -- Assumes nothing.
-use Prim.Native.Nat.{_-_}
 use Rattle.subscription.specs.When.{along}
 use Rattle.subscription.proofs.Subscription.goes_along.Statement.{statement}
 use Rattle.subscription.proofs.Subscription.goes_along.Tie as tie

@@ -1,7 +1,6 @@
 -- `handed_out` meets its contract: the fields are the definition's.
 -- Assumes nothing.
 use mathlib.Core.Path.{refl}
-use Prim.Native.Nat.{_-_}
 use Rattle.subscription.specs.Life.{opened}
 use Rattle.subscription.proofs.Subscription.handed_out.Statement.{statement}
 use Rattle.subscription.proofs.Subscription.handed_out.Tie as tie

@@ -1,6 +1,5 @@
 -- `is_expired` meets its contract: it is `time`'s answer for the fields.
 -- Assumes nothing.
-use Prim.Native.Nat.{_-_}
 use borrow.Author.Needs.{needs}
 use Rattle.subscription.specs.When.{isOver}
 use Rattle.subscription.proofs.Subscription.is_expired.Statement.{statement}

@@ -1,6 +1,5 @@
 -- `is_pending` meets its contract: each return is a case of the definition, by the flag.
 -- Assumes nothing.
-use Prim.Native.Nat.{_-_}
 use Rattle.subscription.specs.When.{pending}
 use Rattle.subscription.proofs.Subscription.is_pending.Statement.{statement}
 use Rattle.subscription.proofs.Subscription.is_pending.Tie as tie

@@ -1,6 +1,5 @@
 -- `is_report_due` meets its contract: it compares what `report_due_at` ensures with now.
 -- Assumes nothing.
-use Prim.Native.Nat.{_-_}
 use borrow.Author.Needs.{needs}
 use Rattle.subscription.specs.When.{isDue}
 use Rattle.subscription.proofs.Subscription.is_report_due.Statement.{statement}

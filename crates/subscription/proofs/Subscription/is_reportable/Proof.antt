@@ -1,7 +1,6 @@
 -- `is_reportable` meets its contract: the tests are the definition's, in its order.
 -- Assumes nothing.
 use mathlib.Core.Path.{sym, _∙_}
-use Prim.Native.Nat.{_-_}
 use borrow.Author.Tests.{le-leb, lt-leb}
 use borrow.Author.Needs.{needs}
 use Rattle.subscription.specs.When.{reportable}

@@ -1,6 +1,5 @@
 -- `min_int_gate` meets its contract: it is `time`'s answer for the fields.
 -- Assumes nothing.
-use Prim.Native.Nat.{_-_}
 use borrow.Author.Needs.{needs}
 use Rattle.subscription.specs.When.{gateOf}
 use Rattle.subscription.proofs.Subscription.min_int_gate.Statement.{statement}

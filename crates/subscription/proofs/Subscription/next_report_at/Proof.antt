@@ -1,7 +1,6 @@
 -- `next_report_at` meets its contract: each return is a case of the definition, by what `is_pending` says.
 -- Assumes nothing.
 use mathlib.Core.Path.{sym, _∙_}
-use Prim.Native.Nat.{_-_}
 use borrow.Author.Needs.{needs}
 use Rattle.subscription.specs.When.{nextOf}
 use Rattle.subscription.proofs.Subscription.next_report_at.Statement.{statement}

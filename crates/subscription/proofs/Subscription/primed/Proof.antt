@@ -1,7 +1,6 @@
 -- `primed` meets its contract: the fields are the definition's.
 -- Assumes nothing.
 use mathlib.Core.Path.{refl}
-use Prim.Native.Nat.{_-_}
 use Rattle.subscription.specs.Life.{priming}
 use Rattle.subscription.proofs.Subscription.primed.Statement.{statement}
 use Rattle.subscription.proofs.Subscription.primed.Tie as tie

@@ -1,6 +1,5 @@
 -- `report_allowed_at` meets its contract by what `min_int_gate` and `max` ensure.
 -- Assumes nothing.
-use Prim.Native.Nat.{_-_}
 use borrow.Author.Needs.{needs}
 use Rattle.subscription.specs.When.{allowedOf}
 use Rattle.subscription.proofs.Subscription.report_allowed_at.Statement.{statement}

@@ -1,6 +1,5 @@
 -- `report_due_at` meets its contract: it is `time`'s answer for the fields.
 -- Assumes nothing.
-use Prim.Native.Nat.{_-_}
 use borrow.Author.Needs.{needs}
 use Rattle.subscription.specs.When.{dueOf}
 use Rattle.subscription.proofs.Subscription.report_due_at.Statement.{statement}

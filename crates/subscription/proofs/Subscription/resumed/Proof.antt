@@ -1,7 +1,6 @@
 -- `resumed` meets its contract: the fields are the definition's.
 -- Assumes nothing.
 use mathlib.Core.Path.{refl}
-use Prim.Native.Nat.{_-_}
 use Rattle.subscription.specs.Life.{resumed}
 use Rattle.subscription.proofs.Subscription.resumed.Statement.{statement}
 use Rattle.subscription.proofs.Subscription.resumed.Tie as tie

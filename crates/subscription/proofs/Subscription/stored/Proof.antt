@@ -1,7 +1,6 @@
 -- `stored` meets its contract: the fields are the definition's.
 -- Assumes nothing.
 use mathlib.Core.Path.{refl}
-use Prim.Native.Nat.{_-_}
 use Rattle.subscription.specs.Life.{storedWith}
 use Rattle.subscription.proofs.Subscription.stored.Statement.{statement}
 use Rattle.subscription.proofs.Subscription.stored.Tie as tie
