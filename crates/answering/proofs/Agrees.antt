@@ -6,7 +6,7 @@ use mathlib.Core.Bool.{true}
 use mathlib.Core.Option.{Option, none}
 use mathlib.Core.Option.{some as just}
 use Prim.Native.Nat.{ℕ}
-use Rattle.time.specs.Instants.{instant}
+use Rattle.instants.specs.Instants.{instant}
 use Rattle.time.specs.Intervals.{keepAliveOf}
 use Rattle.answers.specs.declared.Change.{Change}
 use Rattle.answers.specs.declared.Change.the-variants as change

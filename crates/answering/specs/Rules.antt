@@ -4,7 +4,7 @@ use mathlib.Core.Option.{Option, none}
 use mathlib.Core.Option.{some as just}
 use Rattle.lists.specs.Search.{one}
 use Rattle.refusal.specs.declared.Refusal.the-variants.{BadLine}
-use Rattle.time.specs.Instants.{instant}
+use Rattle.instants.specs.Instants.{instant}
 use Rattle.time.specs.Intervals.{keepAliveOf}
 use Rattle.rules.specs.States.{State}
 use Rattle.rules.specs.Calls.{Op, Answer}

@@ -9,6 +9,7 @@ ghost use Rattle.answering.specs.Replies.{told, refusedWith, admissionRe
 ghost use Rattle.answering.specs.Answers.{requestOf, settingsOf, renewedIn, addedIn, notedIn, reportedIn, doneIn, askedIn, wakingIn, unreadIn, answerIn};
 use answers::Change;
 use answers::Told;
+use instants::Instant;
 use lines::Line;
 use places::Admission;
 use places::Completion;
@@ -19,7 +20,6 @@ use places::Table;
 use refusal::Refusal;
 use subscription::Request;
 use subscription::Settings;
-use time::Instant;
 use time::KeepAlive;
 
 // A line's code and value.

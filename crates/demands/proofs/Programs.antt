@@ -11,7 +11,7 @@ use borrow.Author.Tests.{eqb-true, not-false}
 use lib.ListN.{length, take, drop}
 use lib.Seq.{sets, sets-eq, take-append-seam}
 use Rattle.subscription.specs.declared.Settings.{Settings}
-use Rattle.time.specs.Instants.{instant}
+use Rattle.instants.specs.Instants.{instant}
 use Rattle.lists.specs.Search.{some}
 use Rattle.lists.proofs.Bools.{clash, or-neither}
 use Rattle.lists.proofs.Orders.{count-nil}

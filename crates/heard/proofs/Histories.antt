@@ -11,7 +11,7 @@ use Rattle.refusal.specs.declared.Refusal.the-variants.{NotOpen}
 use Rattle.entries.specs.declared.ChangedAttr.{ChangedAttr}
 use Rattle.lists.specs.Search.{one, some, count}
 use Rattle.entries.specs.Paths.{entry, covers}
-use Rattle.time.specs.Instants.{neverReported}
+use Rattle.instants.specs.Instants.{neverReported}
 use Rattle.subscription.specs.Life.{blank}
 use Rattle.rules.specs.States.{State, fresh, capacityFits, hasId, idLive, wellKept}
 use Rattle.rules.specs.Calls.{Op}

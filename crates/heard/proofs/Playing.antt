@@ -9,7 +9,7 @@ use native.Mathlib.Omega.{arith}
 use borrow.Author.Tests.{eqb-true, not-false}
 use lib.Dec.{eqb}
 use lib.ListN.{length}
-use Rattle.time.specs.Instants.{lastInstant}
+use Rattle.instants.specs.Instants.{lastInstant}
 use Rattle.subscription.specs.declared.Settings.{Settings}
 use Rattle.subscription.specs.declared.Subscription.{Subscription}
 use Rattle.lists.specs.Search.{some, count, distinct}

@@ -9,8 +9,8 @@ use native.Mathlib.Nat.{add-zero, add-assoc}
 use borrow.Author.Tests.{leb-false, eq-eqb, ne-eqb}
 use lib.Dec.{eqb, leb}
 use Rattle.entries.specs.declared.ChangedAttr.{ChangedAttr}
-use Rattle.time.specs.declared.Instant.{Instant}
-use Rattle.time.specs.Instants.{lastInstant}
+use Rattle.instants.specs.declared.Instant.{Instant}
+use Rattle.instants.specs.Instants.{lastInstant}
 use Rattle.subscription.specs.declared.Settings.{Settings}
 use Rattle.subscription.specs.declared.Subscription.{Subscription}
 use Rattle.lists.specs.Search.{one, some, count}

@@ -5,7 +5,7 @@ use mathlib.Core.Bool.{true, false}
 use mathlib.Core.List.{List, [], _∷_}
 use Prim.Native.Nat.{ℕ, _+_}
 use Rattle.lists.specs.Search.{some}
-use Rattle.time.specs.Instants.{instant}
+use Rattle.instants.specs.Instants.{instant}
 use Rattle.rules.specs.States.{State, fresh, reportOpen, idLive}
 use Rattle.rules.specs.Calls.{Op}
 use Rattle.rules.specs.Machine.{step, run}

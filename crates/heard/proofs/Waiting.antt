@@ -7,8 +7,8 @@ use Prim.Native.Nat.{ℕ, _+_, _≤_}
 use native.Mathlib.Omega.{arith}
 use borrow.Author.Tests.{lt-leb, leb-true, le-ltb, eqb-true, eq-eqb, not-false}
 use lib.Dec.{eqb, leb}
-use Rattle.time.specs.declared.Instant.{Instant}
-use Rattle.time.specs.Instants.{lastInstant}
+use Rattle.instants.specs.declared.Instant.{Instant}
+use Rattle.instants.specs.Instants.{lastInstant}
 use Rattle.subscription.specs.declared.Settings.{Settings}
 use Rattle.subscription.specs.declared.Subscription.{Subscription}
 use Rattle.lists.specs.Search.{one, some, count}

@@ -10,7 +10,7 @@ use Rattle.time.specs.declared.KeepAlive.the-variants.{Default}
 use Rattle.subscription.specs.declared.Request.{Request}
 use Rattle.subscription.specs.declared.Settings.{Settings}
 use Rattle.lists.specs.Search.{some}
-use Rattle.time.specs.Instants.{instant}
+use Rattle.instants.specs.Instants.{instant}
 use Rattle.rules.specs.States.{fresh}
 use Rattle.rules.specs.Calls.{Op}
 use Rattle.rules.specs.Machine.{step, run}

@@ -14,7 +14,7 @@ use Rattle.entries.specs.Paths.{entry}
 use Rattle.changes.specs.Logs.{holding, kept, identityAfter, entriesOf}
 use Rattle.changes.specs.Logs.{noted as logAfter}
 use Rattle.notes.specs.Notes.{entered}
-use Rattle.time.specs.Instants.{instant}
+use Rattle.instants.specs.Instants.{instant}
 use Rattle.rules.specs.States.{State, fresh, idLive, wellKept}
 use Rattle.rules.specs.Calls.{Op}
 use Rattle.rules.specs.Machine.{firstOf, withLog, outcome, step, run}

@@ -3,6 +3,7 @@
 ghost use Prim.Native.Nat.{_<_};
 use changes::ChangedAttrs;
 use entries::ChangedAttr;
+use instants::Instant;
 use libc::STDOUT_FILENO;
 use places::Admission;
 use places::Admitted;
@@ -11,7 +12,6 @@ use subscription::Request;
 use subscription::SENT;
 use subscription::Settings;
 use subscription::Subscription;
-use time::Instant;
 use time::KeepAlive;
 
 const REQUEST: Request = Request {

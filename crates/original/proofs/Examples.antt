@@ -7,7 +7,7 @@ use Prim.Native.Nat.{ℕ}
 use Rattle.entries.specs.declared.ChangedAttr.{ChangedAttr}
 use Rattle.refusal.specs.declared.Refusal.the-variants.{Full}
 use Rattle.time.specs.declared.KeepAlive.the-variants.{Default}
-use Rattle.time.specs.Instants.{instant}
+use Rattle.instants.specs.Instants.{instant}
 use Rattle.rules.specs.Calls as call
 use Rattle.rules.specs.Calls.{Op}
 use Rattle.rules.specs.Histories.{Diary}

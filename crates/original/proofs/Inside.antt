@@ -9,8 +9,8 @@ use Rattle.lists.specs.Search.{some}
 use Rattle.lists.proofs.Bools.{or-neither}
 use Rattle.lists.proofs.Orders.{some-nil, some-cons}
 use Rattle.time.specs.declared.KeepAlive.the-variants.{Default, Icd}
-use Rattle.time.specs.Instants.{instant}
-use Rattle.subscription.specs.declared.Choice.the-variants.{Peer}
+use Rattle.instants.specs.Instants.{instant}
+use Rattle.choices.specs.declared.Choice.the-variants.{Peer}
 use Rattle.rules.specs.Calls as call
 use Rattle.rules.specs.Calls.{Op}
 use Rattle.rules.specs.States.{State, fresh}

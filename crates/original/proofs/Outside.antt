@@ -8,9 +8,9 @@ use Prim.Native.Nat.{ℕ}
 use Rattle.lists.specs.Search.{some}
 use Rattle.refusal.specs.declared.Refusal.the-variants.{Full}
 use Rattle.time.specs.declared.KeepAlive.the-variants.{Default}
-use Rattle.time.specs.Instants.{instant}
+use Rattle.instants.specs.Instants.{instant}
 use Rattle.subscription.specs.declared.Request.{Request}
-use Rattle.subscription.specs.declared.Choice.the-variants.{Id}
+use Rattle.choices.specs.declared.Choice.the-variants.{Id}
 use Rattle.rules.specs.States.{fresh}
 use Rattle.rules.specs.Calls as call
 use Rattle.rules.specs.Calls.{Settings}

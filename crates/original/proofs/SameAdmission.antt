@@ -12,7 +12,7 @@ use Rattle.lists.specs.Search.{some}
 use Rattle.lists.proofs.Bools.{or-neither}
 use Rattle.lists.proofs.Searches.{some-append}
 use Rattle.refusal.specs.declared.Refusal.the-variants.{Full}
-use Rattle.time.specs.declared.Instant.{Instant}
+use Rattle.instants.specs.declared.Instant.{Instant}
 use Rattle.changes.specs.Logs.{watermarkOf, noted}
 use Rattle.subscription.specs.declared.Request.{Request}
 use Rattle.subscription.specs.declared.Subscription as one

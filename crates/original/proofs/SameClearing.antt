@@ -18,8 +18,8 @@ use Rattle.lists.proofs.Maps.{some-map, sweep-map}
 use Rattle.changes.specs.declared.ChangedAttrs as changes
 use Rattle.changes.specs.Logs.{kept, purged, cleared}
 use Rattle.subscription.specs.declared.Subscription as one
-use Rattle.subscription.specs.declared.Choice.{Choice}
-use Rattle.subscription.specs.Choices.{chosen}
+use Rattle.choices.specs.declared.Choice.{Choice}
+use Rattle.choices.specs.Choices.{chosen}
 use Rattle.rules.specs.States.{State, counted, isReport, isPriming}
 use Rattle.rules.specs.Calls as call
 use Rattle.rules.specs.Machine as machine

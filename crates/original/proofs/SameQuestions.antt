@@ -14,10 +14,10 @@ use Rattle.lists.proofs.Bools.{split}
 use Rattle.lists.proofs.Orders.{none-one, count-cons, least-lower}
 use Rattle.lists.proofs.Maps.{some-map, count-map}
 use Rattle.refusal.specs.declared.Refusal.the-variants.{NotOpen}
-use Rattle.time.specs.declared.Instant.{Instant}
+use Rattle.instants.specs.declared.Instant.{Instant}
 use Rattle.time.specs.declared.KeepAlive.{KeepAlive}
 use Rattle.time.specs.declared.KeepAlive.the-variants.{Icd}
-use Rattle.time.specs.Instants.{lastInstant, neverReported}
+use Rattle.instants.specs.Instants.{lastInstant, neverReported}
 use Rattle.changes.specs.Logs as logs
 use Rattle.changes.specs.Logs.{changedSince}
 use Rattle.subscription.specs.declared.Subscription as one

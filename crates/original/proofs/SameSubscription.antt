@@ -6,19 +6,20 @@ use Prim.Native.Nat.{ℕ, zero, suc, _≤_, max}
 use native.Mathlib.Omega.{arith}
 use lib.Dec.{eqb, leb, ltb}
 use Rattle.lists.proofs.Bools.{split, clash}
-use Rattle.time.specs.declared.Instant.{Instant}
+use Rattle.instants.specs.declared.Instant.{Instant}
 use Rattle.time.specs.declared.KeepAlive.{KeepAlive}
-use Rattle.time.specs.Instants.{neverReported}
+use Rattle.instants.specs.Instants.{neverReported}
 use Rattle.time.specs.Intervals as time
 use Rattle.changes.specs.declared.ChangedAttrs as changes
 use Rattle.changes.specs.Logs as logs
 use Rattle.subscription.specs.declared.Subscription as one
-use Rattle.subscription.specs.declared.Choice.{Choice}
-use Rattle.subscription.specs.declared.Choice.the-variants.{All, Fabric, Peer, Id, ExpiredAt}
+use Rattle.choices.specs.declared.Choice.{Choice}
+use Rattle.choices.specs.declared.Choice.the-variants.{All, Fabric, Peer, Id, ExpiredAt}
 use Rattle.subscription.specs.When.{allowedOf, dueOf, reportable, nextOf}
 use Rattle.subscription.specs.Life.{opened, nextFails, closed, keeps, failed}
-use Rattle.subscription.specs.Choices.{chosen}
-use Rattle.subscription.proofs.Cases.{allowed-is, due-is, reportable-is, next-is, chosen-all, chosen-fabric, chosen-peer, chosen-id, chosen-expired, keeps-is, failed-is, closed-is, opened-is, stored-with-is}
+use Rattle.choices.specs.Choices.{chosen}
+use Rattle.subscription.proofs.Cases.{allowed-is, due-is, reportable-is, next-is, keeps-is, failed-is, closed-is, opened-is, stored-with-is, over-is}
+use Rattle.choices.proofs.Cases.{chosen-all, chosen-fabric, chosen-peer, chosen-id, chosen-expired}
 use Rattle.original.specs.Std.{unwrapOr, instantMax, checkedAdd}
 use Rattle.original.specs.Subscription.{isExpired, reportAllowedAt, reportDueAt, isReportable, nextReportAt}
 use Rattle.original.specs.Contexts.{context, setKeep, setUnsent, setKeepRetry, setDropFailed, returned}
@@ -79,7 +80,7 @@ module _ (x : one.Subscription) where
   takes-same (Fabric fabric) = sym (chosen-fabric x fabric)
   takes-same (Peer fabric peer) = sym (chosen-peer x fabric peer)
   takes-same (Id id) = sym (chosen-id x id)
-  takes-same (ExpiredAt now) = expired-same (x .reported) (x .longest) now ∙ sym (chosen-expired x now)
+  takes-same (ExpiredAt now) = expired-same (x .reported) (x .longest) now ∙ sym (chosen-expired x now ∙ over-is x now)
 
   -- ---- handed out
 

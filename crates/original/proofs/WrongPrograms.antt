@@ -13,7 +13,7 @@ use Rattle.rules.specs.Calls.{Op, Answer}
 use Rattle.rules.specs.Machine.{answers}
 use Rattle.rules.proofs.Acts.{answers-none, answers-more}
 use Rattle.rules.proofs.Computing.{allRules}
-use Rattle.time.specs.Instants.{instant}
+use Rattle.instants.specs.Instants.{instant}
 use Rattle.original.specs.Programs.{told, Meets, theMachine, refusesEverything, oneAnswer, madeUpCount, doesNothing, firstRoundOnly, yesToEveryAttribute}
 use Rattle.original.proofs.Computing.{originalRules}
 use Rattle.original.proofs.Outside.{request, at}

@@ -11,9 +11,9 @@ use lib.Dec.{eqb, ltb}
 use lib.ListN.{length, set}
 use Rattle.lists.specs.Removal.{takeOutNewest}
 use Rattle.refusal.specs.declared.Refusal.the-variants.{Full, NotOpen}
-use Rattle.time.specs.declared.Instant.{Instant}
-use Rattle.subscription.specs.declared.Choice.{Choice}
-use Rattle.subscription.specs.declared.Choice.the-variants.{All, Fabric, Peer, Id, ExpiredAt}
+use Rattle.instants.specs.declared.Instant.{Instant}
+use Rattle.choices.specs.declared.Choice.{Choice}
+use Rattle.choices.specs.declared.Choice.the-variants.{All, Fabric, Peer, Id, ExpiredAt}
 use Rattle.subscription.specs.declared.Settings.{Settings}
 use Rattle.rules.specs.Calls as call
 use Rattle.rules.specs.Calls.{Op, Answer}

@@ -8,7 +8,7 @@ use Prim.Native.Nat.{ℕ}
 use lib.Dec.{eqb}
 use Rattle.changes.specs.declared.ChangedAttrs as changes
 use Rattle.changes.specs.Logs.{entriesOf, holding}
-use Rattle.time.specs.Instants.{instant, firstInstant}
+use Rattle.instants.specs.Instants.{instant, firstInstant}
 use Rattle.subscription.specs.declared.Subscription as one
 use Rattle.rules.specs.States.{State, counted, isReport}
 use Rattle.original.specs.Std.{unwrapOr}

@@ -18,7 +18,7 @@ use Rattle.places.specs.declared.Table.{Table}
 use Rattle.answers.specs.declared.Told.the-variants as told
 use Rattle.lists.specs.Search.{first}
 use Rattle.lists.specs.Removal.{takeOutNewest}
-use Rattle.time.specs.Instants.{neverReported}
+use Rattle.instants.specs.Instants.{neverReported}
 use Rattle.changes.specs.Logs.{changedSince}
 use Rattle.subscription.specs.When.{isDue}
 use Rattle.subscription.specs.Life.{blank, closed, failed}

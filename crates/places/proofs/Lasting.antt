@@ -10,8 +10,8 @@ use borrow.Author.Tests.{ltb-true}
 use lib.Dec.{ltb}
 use lib.ListN.{getD}
 use Rattle.refusal.specs.declared.Refusal.{Refusal}
-use Rattle.time.specs.declared.Instant.{Instant}
-use Rattle.subscription.specs.declared.Choice.{Choice}
+use Rattle.instants.specs.declared.Instant.{Instant}
+use Rattle.choices.specs.declared.Choice.{Choice}
 use Rattle.subscription.specs.declared.Request.{Request}
 use Rattle.subscription.specs.declared.Settings.{Settings}
 use Rattle.places.specs.declared.Table.{Table}
@@ -22,7 +22,7 @@ use Rattle.places.specs.declared.Settled.{Settled}
 use Rattle.places.specs.declared.TableNoted.{TableNoted}
 use Rattle.places.specs.declared.Woken.{Woken}
 use Rattle.subscription.specs.Life.{blank, closed}
-use Rattle.subscription.specs.Choices.{chosen}
+use Rattle.choices.specs.Choices.{chosen}
 use Rattle.rules.specs.Calls.{Op}
 use Rattle.rules.specs.Machine.{firstOf}
 use Rattle.places.specs.Views.{kept, refusalAt}

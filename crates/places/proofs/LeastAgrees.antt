@@ -17,7 +17,7 @@ use Rattle.places.specs.declared.Table.{Table}
 use Rattle.answers.specs.declared.Change.the-variants as change
 use Rattle.places.specs.declared.Alive.the-variants as alive
 use Rattle.lists.specs.Search.{leastBy}
-use Rattle.time.specs.Instants.{lastInstant}
+use Rattle.instants.specs.Instants.{lastInstant}
 use Rattle.changes.specs.Logs.{purged}
 use Rattle.subscription.specs.When.{dueOf}
 use Rattle.subscription.specs.Life.{blank}

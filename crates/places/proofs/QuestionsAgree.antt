@@ -7,14 +7,14 @@ use Prim.Native.Nat.{ℕ, _-_}
 use native.Mathlib.Omega.{arith}
 use lib.Dec.{eqb}
 use lib.ListN.{length}
-use Rattle.time.specs.declared.Instant.{Instant}
+use Rattle.instants.specs.declared.Instant.{Instant}
 use Rattle.time.specs.declared.KeepAlive.{KeepAlive}
 use Rattle.places.specs.declared.Table.{Table}
 use Rattle.answers.specs.declared.Told.the-variants as told
 use Rattle.places.specs.declared.Moment.the-variants as moment
 use Rattle.places.specs.declared.Loaded.the-variants as loaded
 use Rattle.lists.specs.Search.{count, leastBy}
-use Rattle.time.specs.Instants.{lastInstant}
+use Rattle.instants.specs.Instants.{lastInstant}
 use Rattle.changes.specs.Logs.{newestOf, anySince}
 use Rattle.subscription.specs.When.{nextOf}
 use Rattle.rules.specs.Machine.{outcome, step}

@@ -12,7 +12,7 @@ use lib.Dec.{leb, eqb}
 use lib.ListN.{length, length-drop}
 use lib.Seq.{length-take-le}
 use Rattle.refusal.specs.declared.Refusal.the-variants.{BadArgument, Full, NotWellKept}
-use Rattle.time.specs.declared.Instant.{Instant}
+use Rattle.instants.specs.declared.Instant.{Instant}
 use Rattle.subscription.specs.declared.Request.{Request}
 use Rattle.places.specs.declared.Table.{Table}
 use Rattle.changes.specs.Logs.{kept as logKept}

@@ -9,12 +9,12 @@ use native.Mathlib.Omega.{arith}
 use lib.ListN.{length, take, drop, getD, set, length-set}
 use lib.Seq.{drop-set-lt}
 use Rattle.subscription.specs.declared.Subscription.{Subscription}
-use Rattle.subscription.specs.declared.Choice.{Choice}
+use Rattle.choices.specs.declared.Choice.{Choice}
 use Rattle.places.specs.declared.Table.{Table}
 use Rattle.lists.specs.Search.{some}
 use Rattle.lists.specs.Removal.{sweep, scanned}
 use Rattle.subscription.specs.Life.{blank}
-use Rattle.subscription.specs.Choices.{chosen}
+use Rattle.choices.specs.Choices.{chosen}
 use Rattle.rules.specs.Machine.{Outcome, outcome, withOnes, withCancel, step}
 use Rattle.places.specs.Views.{storedOf, opensOf, view, kept}
 use Rattle.places.specs.Tests.{struck}

@@ -8,11 +8,11 @@ use mathlib.Core.Option.{some as just}
 use Prim.Native.Nat.{ℕ, _+_, _-_}
 use lib.Dec.{eqb, ltb, leb}
 use lib.ListN.{getD}
-use Rattle.subscription.specs.declared.Choice.{Choice}
+use Rattle.choices.specs.declared.Choice.{Choice}
 use Rattle.places.specs.declared.Woken.{Woken}
 use Rattle.refusal.specs.declared.Refusal.{Refusal}
 use Rattle.refusal.specs.declared.Refusal.the-variants.{BadArgument, Full, IdLive}
-use Rattle.time.specs.declared.Instant.{Instant}
+use Rattle.instants.specs.declared.Instant.{Instant}
 use Rattle.time.specs.declared.KeepAlive.{KeepAlive}
 use Rattle.answers.specs.declared.Told.{Told}
 use Rattle.subscription.specs.declared.Request.{Request}
@@ -38,12 +38,12 @@ use Rattle.places.specs.declared.Moment.the-variants as moment
 use Rattle.places.specs.declared.Alive.the-variants as alive
 use Rattle.places.specs.declared.Loaded.the-variants as loaded
 use Rattle.changes.specs.Logs.{purged, cleared, watermarkOf, newestOf, noted, changedSince}
-use Rattle.subscription.specs.Choices.{chosen}
+use Rattle.choices.specs.Choices.{chosen}
 use Rattle.rules.specs.States.{isReport, capacityFits, hasId}
 use Rattle.places.specs.Tests.{struck, seenOf, readyBy, ofFabric, served, nextBy, icdDue}
 use Rattle.places.specs.Moves.{sweptOut, emptied, withNextId, withReason, withLog, takenOut, storedLast, openedUp, closedAt}
 use Rattle.lists.specs.Search.{some, count, first, leastBy}
-use Rattle.time.specs.Instants.{instant, lastInstant, neverReported}
+use Rattle.instants.specs.Instants.{instant, lastInstant, neverReported}
 use Rattle.subscription.specs.Life.{blank, priming, resumed, opened, closed, keeps, failed}
 use Rattle.subscription.specs.When.{isDue}
 use Rattle.rules.specs.Machine.{Objection, nextIdAfter}

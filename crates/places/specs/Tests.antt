@@ -5,10 +5,10 @@ use Prim.Native.Nat.{ℕ}
 use lib.Dec.{eqb, ltb}
 use Rattle.time.specs.declared.KeepAlive.the-variants.{Icd}
 use Rattle.subscription.specs.declared.Subscription.{Subscription}
-use Rattle.subscription.specs.declared.Choice.{Choice}
+use Rattle.choices.specs.declared.Choice.{Choice}
 use Rattle.subscription.specs.declared.Settings.{Settings}
 use Rattle.subscription.specs.When.{dueOf, reportable, nextOf}
-use Rattle.subscription.specs.Choices.{chosen}
+use Rattle.choices.specs.Choices.{chosen}
 use Rattle.rules.specs.States.{isReport}
 
 -- reportable at the settings, where the log's greatest identity is `newest`

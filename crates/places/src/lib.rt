@@ -3,9 +3,9 @@
 // machine's step at the state that the table stands for, in proofs/. No code: that is crate table's.
 use answers::Change;
 use changes::ChangedAttrs;
+use instants::Instant;
 use refusal::Refusal;
 use subscription::Subscription;
-use time::Instant;
 
 pub struct Table {
     // The stored ones are the first `stored`, the open ones the last `opens`; a place between them is blank.

@@ -16,6 +16,7 @@ use answers::Change;
 use fields::Numbers;
 use fields::PLACES;
 use fields::read_fields;
+use instants::Instant;
 use lines::BITS8;
 use lines::BITS16;
 use lines::BITS32;
@@ -29,7 +30,6 @@ use places::Hearing;
 use places::Table;
 use subscription::Request;
 use subscription::Settings;
-use time::Instant;
 use time::KeepAlive;
 
 const NEW: [u64; 1] = [BITS8];

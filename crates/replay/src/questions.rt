@@ -14,6 +14,7 @@ use answers::Told;
 use changes::ChangedAttrs;
 use fields::Numbers;
 use fields::read_fields;
+use instants::Instant;
 use lines::BITS8;
 use lines::BITS16;
 use lines::BITS32;
@@ -25,7 +26,6 @@ use places::Loaded;
 use places::Moment;
 use places::Table;
 use refusal::Refusal;
-use time::Instant;
 use time::KeepAlive;
 
 const ATTR: [u64; 4] = [BITS32, BITS16, BITS32, BITS32];

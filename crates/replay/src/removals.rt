@@ -8,16 +8,16 @@ use super::replies::refused;
 use super::words::is_word;
 use super::words::low8;
 use super::words::low32;
+use choices::Choice;
 use fields::Numbers;
 use fields::read_fields;
+use instants::Instant;
 use lines::BITS8;
 use lines::BITS32;
 use lines::BITS64;
 use lines::starts;
 use places::Table;
 use places::Waking;
-use subscription::Choice;
-use time::Instant;
 
 const ALL: [u64; 1] = [BITS8];
 

@@ -10,6 +10,7 @@ use changes::ChangedAttrs;
 use fields::Numbers;
 use fields::PLACES;
 use fields::read_fields;
+use instants::Instant;
 use lines::BITS8;
 use lines::BITS16;
 use lines::BITS64;
@@ -18,7 +19,6 @@ use lines::starts;
 use refusal::Refusal;
 use subscription::Settings;
 use subscription::Subscription;
-use time::Instant;
 use time::KeepAlive;
 
 // The intervals, the last report, the retry, the failures and what it has seen; then instant, events and two flags.

@@ -8,6 +8,7 @@ use super::words::low16;
 use super::words::low32;
 use fields::Numbers;
 use fields::read_fields;
+use instants::Instant;
 use lines::BITS8;
 use lines::BITS16;
 use lines::BITS32;
@@ -15,7 +16,6 @@ use lines::BITS64;
 use lines::FLAG;
 use lines::starts;
 use refusal::Refusal;
-use time::Instant;
 use time::KeepAlive;
 
 const BACKOFF: [u64; 2] = [BITS8, BITS16];

@@ -10,17 +10,17 @@ use lib.Dec.{eqb, ltb}
 use lib.ListN.{length}
 use Rattle.refusal.specs.declared.Refusal.the-variants.{BadArgument}
 use Rattle.subscription.specs.declared.Subscription.{Subscription}
-use Rattle.time.specs.declared.Instant.{Instant}
+use Rattle.instants.specs.declared.Instant.{Instant}
 use Rattle.time.specs.declared.KeepAlive.{KeepAlive}
 use Rattle.time.specs.declared.KeepAlive.the-variants.{Icd}
-use Rattle.subscription.specs.declared.Choice.{Choice}
+use Rattle.choices.specs.declared.Choice.{Choice}
 use Rattle.subscription.specs.declared.Request.{Request}
 use Rattle.subscription.specs.declared.Settings.{Settings}
 use Rattle.lists.specs.Search.{leastBy, some, count}
 use Rattle.lists.specs.Removal.{sweep, takeOutNewest, takeOut}
-use Rattle.time.specs.Instants.{lastInstant, neverReported}
+use Rattle.instants.specs.Instants.{lastInstant, neverReported}
 use Rattle.subscription.specs.When.{dueOf, nextOf, isDue, reportable}
-use Rattle.subscription.specs.Choices.{chosen}
+use Rattle.choices.specs.Choices.{chosen}
 use Rattle.rules.specs.Machine.{withLog, leastSeen, purgedIn, keepAliveIn, nextInstantIn, statisticsIn, hasSubscriptionIn, cancels, removed, clearedIn, withCancel, openWith, stays, storedAfter, completedIn, attributeIn, sendIfEmptyIn, anyReportableIn, withNext, nextIdAfter, added, resumedTo, notedIn, outcome, withOnes, openedIn, nextUp, reported, act, ready, objections, firstOf, refusal, step, Outcome, Turn, turned, roundFrom, roundIn, run, answers}
 use Rattle.changes.specs.Logs.{changedSince, watermarkOf, noted, purged, cleared, anySince}
 use Rattle.subscription.specs.Life.{failed, priming, resumed}

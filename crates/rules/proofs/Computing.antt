@@ -3,7 +3,7 @@
 use Prim.Native.Nat.{ℕ}
 use Rattle.lists.specs.Search.{some, count, first, changeFirst, firstBy, distinct, leastBy}
 use Rattle.lists.specs.Removal.{lastOf, initOf, refilled, sweepFor, sweep, takeOut, takeOutNewest}
-use Rattle.time.specs.Instants.{later}
+use Rattle.instants.specs.Instants.{later}
 use Rattle.time.specs.Intervals.{backoffSecs, dueAfterSecs, grantedMaxSecs}
 use Rattle.time.specs.Moments.{sinceReport, retryAt, expired}
 use Rattle.entries.specs.Paths.{fieldCovers, covers, fieldMatches, matches, over, under, above, since, upTo, candidate}
@@ -12,7 +12,7 @@ use Rattle.notes.specs.Places.{heldAs}
 use Rattle.changes.specs.Logs.{holding, kept, identityAfter, noted, purged, cleared}
 use Rattle.subscription.specs.When.{gateOf, allowedOf, dueOf, isDue, pending, along, reportable, nextOf, isOver}
 use Rattle.subscription.specs.Life.{priming, resumed, opened, storedWith, closed, givesUp, keeps, failed}
-use Rattle.subscription.specs.Choices.{chosen}
+use Rattle.choices.specs.Choices.{chosen}
 use Rattle.rules.specs.Marked.{afterNotes, afterSeventeen}
 use Rattle.rules.specs.States.{counted, reportOpen, hasId, wellKept}
 use Rattle.rules.specs.Machine.{firstOf, objections, refusal, added, resumedTo, notedIn, ready, reported, completedIn, removed, clearedIn, purgedIn, attributeIn, sendIfEmptyIn, nextInstantIn, anyReportableIn, keepAliveIn, statisticsIn, hasSubscriptionIn, roundFrom, roundIn, act, step, run, answers}

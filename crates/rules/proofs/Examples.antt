@@ -8,9 +8,9 @@ use mathlib.Core.Option.{some as just}
 use Prim.Native.Nat.{ℕ}
 use Rattle.time.specs.declared.KeepAlive.{KeepAlive}
 use Rattle.time.specs.declared.KeepAlive.the-variants.{Default, Icd}
-use Rattle.time.specs.Instants.{instant}
+use Rattle.instants.specs.Instants.{instant}
 use Rattle.subscription.specs.declared.Request.{Request}
-use Rattle.subscription.specs.declared.Choice.the-variants.{All, Fabric, Id}
+use Rattle.choices.specs.declared.Choice.the-variants.{All, Fabric, Id}
 use Rattle.subscription.specs.Life.{priming, resumed}
 use Rattle.rules.specs.States.{State, fresh}
 use Rattle.rules.specs.Calls as call

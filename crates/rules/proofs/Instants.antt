@@ -13,9 +13,9 @@ use borrow.Author.Tests.{not-true, le-ltb}
 use lib.Dec.{leb}
 use lib.ListN.{length}
 use Rattle.lists.proofs.Orders.{count-nil, none-count}
-use Rattle.time.specs.declared.Instant.{Instant}
+use Rattle.instants.specs.declared.Instant.{Instant}
 use Rattle.time.specs.declared.KeepAlive.{KeepAlive}
-use Rattle.time.specs.Instants.{lastInstant}
+use Rattle.instants.specs.Instants.{lastInstant}
 use Rattle.changes.specs.Logs.{watermarkOf}
 use Rattle.subscription.specs.declared.Subscription.{Subscription}
 use Rattle.subscription.specs.Life.{priming, resumed, closed}

@@ -13,9 +13,9 @@ use lib.ListN.{length}
 use Rattle.lists.specs.Search.{some}
 use Rattle.lists.proofs.Bools.{split, or-left, or-neither}
 use Rattle.lists.proofs.Orders.{some-cons, some-same, least-most}
-use Rattle.time.specs.declared.Instant.{Instant}
+use Rattle.instants.specs.declared.Instant.{Instant}
 use Rattle.time.specs.declared.KeepAlive.{KeepAlive}
-use Rattle.time.specs.Instants.{lastInstant}
+use Rattle.instants.specs.Instants.{lastInstant}
 use Rattle.subscription.specs.declared.Subscription.{Subscription}
 use Rattle.subscription.specs.When.{nextOf}
 use Rattle.subscription.proofs.Laws.{reportable-next, next-most}

@@ -11,13 +11,13 @@ use Rattle.lists.specs.Search.{one, some, count}
 use Rattle.lists.specs.Removal.{takeOut}
 use Rattle.lists.proofs.Bools.{split, or-left}
 use Rattle.lists.proofs.Orders.{count-nil, count-cons, some-cons, in-front, newest-out, count-every, count-end, count-taken, count-taken-newest, count-swept}
-use Rattle.time.specs.declared.Instant.{Instant}
+use Rattle.instants.specs.declared.Instant.{Instant}
 use Rattle.changes.specs.Logs.{watermarkOf}
 use Rattle.subscription.specs.declared.Subscription.{Subscription}
-use Rattle.subscription.specs.declared.Choice.{Choice}
+use Rattle.choices.specs.declared.Choice.{Choice}
 use Rattle.subscription.specs.declared.Request.{Request}
 use Rattle.subscription.specs.Life.{blank, priming, resumed, closed}
-use Rattle.subscription.specs.Choices.{chosen}
+use Rattle.choices.specs.Choices.{chosen}
 use Rattle.subscription.proofs.Laws.{opened-id}
 use Rattle.rules.specs.States.{State, counted, hasId}
 use Rattle.rules.specs.Calls.{Settings}

@@ -7,12 +7,12 @@ use mathlib.Core.List.{List, [], _∷_}
 use Prim.Native.Nat.{ℕ}
 use Rattle.refusal.specs.declared.Refusal.the-variants.{Full, NotOpen, ReportOpen, IdLive, BadArgument, PrimingOpen, NotWellKept}
 use Rattle.time.specs.declared.KeepAlive.the-variants.{Default}
-use Rattle.time.specs.Instants.{instant}
+use Rattle.instants.specs.Instants.{instant}
 use Rattle.changes.specs.declared.ChangedAttrs.{ChangedAttrs}
 use Rattle.changes.specs.Logs.{freshLog}
 use Rattle.subscription.specs.declared.Request.{Request}
 use Rattle.subscription.specs.declared.Subscription.{Subscription}
-use Rattle.subscription.specs.declared.Choice.the-variants.{All}
+use Rattle.choices.specs.declared.Choice.the-variants.{All}
 use Rattle.subscription.specs.Life.{resumed, opened}
 use Rattle.rules.specs.States.{State, fresh, wellKept}
 use Rattle.rules.specs.Calls as call

@@ -6,7 +6,7 @@ use mathlib.Core.Bool.{true, false}
 use mathlib.Core.List.{[], _∷_}
 use Prim.Native.Nat.{ℕ}
 use Rattle.time.specs.declared.KeepAlive.the-variants.{Default}
-use Rattle.time.specs.Instants.{instant}
+use Rattle.instants.specs.Instants.{instant}
 use Rattle.subscription.specs.declared.Request.{Request}
 use Rattle.rules.specs.States.{fresh}
 use Rattle.rules.specs.Calls as call

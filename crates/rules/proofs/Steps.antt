@@ -15,8 +15,8 @@ use Rattle.lists.proofs.Searches.{some-weaken}
 use Rattle.changes.specs.declared.ChangedAttrs.{ChangedAttrs}
 use Rattle.changes.specs.Logs.{kept}
 use Rattle.changes.proofs.Promises.{note-kept, purge-kept, clear-kept}
-use Rattle.subscription.specs.declared.Choice.{Choice}
-use Rattle.subscription.specs.Choices.{chosen}
+use Rattle.choices.specs.declared.Choice.{Choice}
+use Rattle.choices.specs.Choices.{chosen}
 use Rattle.rules.specs.States.{State, fresh, capacityFits, isReport, reportOpen, hasId, fabricZero}
 use Rattle.rules.specs.Calls.{Settings, Op}
 use Rattle.rules.specs.Machine.{nextUp, firstOf, objections, roundIn, act, step, notedIn, ready, reported, completedIn, cancels, removed, clearedIn, leastSeen, purgedIn, Turn, turned, roundFrom}

@@ -4,7 +4,7 @@ use mathlib.Core.Path.{refl}
 use mathlib.Core.Bool.{true, false}
 use mathlib.Core.List.{[], _∷_}
 use Prim.Native.Nat.{ℕ}
-use Rattle.time.specs.Instants.{instant}
+use Rattle.instants.specs.Instants.{instant}
 use Rattle.time.specs.declared.KeepAlive.the-variants.{Default}
 use Rattle.subscription.specs.declared.Request.{Request}
 use Rattle.refusal.specs.declared.Refusal.the-variants.{NotOpen}

@@ -5,9 +5,9 @@ use mathlib.Core.List.{List}
 use mathlib.Core.Option.{Option}
 use Prim.Native.Nat.{ℕ}
 use Rattle.refusal.specs.declared.Refusal.{Refusal}
-use Rattle.time.specs.declared.Instant.{Instant}
+use Rattle.instants.specs.declared.Instant.{Instant}
 use Rattle.time.specs.declared.KeepAlive.{KeepAlive}
-use Rattle.subscription.specs.declared.Choice.{Choice}
+use Rattle.choices.specs.declared.Choice.{Choice}
 use Rattle.subscription.specs.declared.Request.{Request}
 pub use Rattle.subscription.specs.declared.Settings.{Settings}
 

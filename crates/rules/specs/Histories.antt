@@ -10,7 +10,7 @@ use lib.Dec.{eqb, ltb}
 use Rattle.refusal.specs.declared.Refusal.{Refusal}
 use Rattle.refusal.specs.Numbers.{numberOf}
 use Rattle.lists.specs.Search.{some}
-use Rattle.time.specs.Instants.{lastInstant}
+use Rattle.instants.specs.Instants.{lastInstant}
 use Rattle.subscription.specs.declared.Subscription.{Subscription}
 use Rattle.rules.specs.States.{State}
 use Rattle.rules.specs.Calls.{Op, Answer}

@@ -11,18 +11,18 @@ use Rattle.lists.specs.Search.{some, count, firstBy, leastBy}
 use Rattle.lists.specs.Removal.{sweep, takeOut, takeOutNewest}
 use Rattle.refusal.specs.declared.Refusal.{Refusal}
 use Rattle.refusal.specs.declared.Refusal.the-variants.{Full, NotOpen, ReportOpen, IdLive, BadArgument, PrimingOpen, NotWellKept}
-use Rattle.time.specs.declared.Instant.{Instant}
+use Rattle.instants.specs.declared.Instant.{Instant}
 use Rattle.time.specs.declared.KeepAlive.{KeepAlive}
 use Rattle.changes.specs.declared.ChangedAttrs.{ChangedAttrs}
 use Rattle.time.specs.declared.KeepAlive.the-variants.{Icd}
-use Rattle.time.specs.Instants.{lastInstant, neverReported}
+use Rattle.instants.specs.Instants.{lastInstant, neverReported}
 use Rattle.changes.specs.Logs.{watermarkOf, noted, purged, cleared, anySince, changedSince}
 use Rattle.subscription.specs.declared.Subscription.{Subscription}
-use Rattle.subscription.specs.declared.Choice.{Choice}
+use Rattle.choices.specs.declared.Choice.{Choice}
 use Rattle.subscription.specs.declared.Request.{Request}
 use Rattle.subscription.specs.When.{dueOf, isDue, reportable, nextOf}
 use Rattle.subscription.specs.Life.{blank, priming, resumed, opened, closed, keeps, failed}
-use Rattle.subscription.specs.Choices.{chosen}
+use Rattle.choices.specs.Choices.{chosen}
 use Rattle.rules.specs.States.{State, fresh, counted, isReport, isPriming, reportOpen, hasId, idLive, capacityFits, wellKept}
 use Rattle.rules.specs.Calls as call
 use Rattle.rules.specs.Calls.{Settings, Op, Answer}

@@ -9,7 +9,7 @@ use Rattle.entries.specs.declared.ChangedAttr.{ChangedAttr}
 use Rattle.changes.specs.declared.ChangedAttrs.{ChangedAttrs}
 use Rattle.refusal.specs.declared.Refusal.the-variants.{IdLive}
 use Rattle.refusal.specs.Numbers.{numberOf}
-use Rattle.time.specs.Instants.{instant}
+use Rattle.instants.specs.Instants.{instant}
 use Rattle.time.specs.Intervals.{backoffSecs, dueAfterSecs, grantedMaxSecs}
 use Rattle.entries.specs.Paths.{entry, wildCluster, wildAttr, allWild}
 use Rattle.changes.specs.Logs.{entriesOf, freshLog, noted}

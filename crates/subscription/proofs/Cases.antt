@@ -4,17 +4,15 @@ use mathlib.Core.Path.{_≡_, refl}
 use mathlib.Core.Bool.{Bool, true, false, cond, not, _&&_, _||_}
 use Prim.Native.Nat.{ℕ, max}
 use lib.Dec.{eqb, leb, ltb}
-use Rattle.time.specs.declared.Instant.{Instant}
+use Rattle.instants.specs.declared.Instant.{Instant}
 use Rattle.time.specs.declared.KeepAlive.{KeepAlive}
-use Rattle.time.specs.Instants.{firstInstant, lastInstant, neverReported}
+use Rattle.instants.specs.Instants.{firstInstant, lastInstant, neverReported}
 use Rattle.time.specs.Intervals.{dueAfterSecs}
 use Rattle.time.specs.Moments.{sinceReport, expired}
 use Rattle.subscription.specs.declared.Request.{Request}
 use Rattle.subscription.specs.declared.Subscription.{Subscription}
-use Rattle.subscription.specs.declared.Choice.the-variants.{All, Fabric, Peer, Id, ExpiredAt}
 use Rattle.subscription.specs.When.{gateOf, allowedOf, dueOf, isDue, pending, along, reportable, nextOf, isOver}
 use Rattle.subscription.specs.Life.{priming, resumed, opened, storedWith, closedSent, closedUnsent, closedRetry, closed, givesUp, keeps, failed}
-use Rattle.subscription.specs.Choices.{chosen}
 
 -- ---- when it may speak and when it must
 
@@ -44,27 +42,9 @@ module _ (x : Subscription) where
   unfolding nextOf pending
   next-is changed events kind = refl
 
-  -- ---- which ones a removal takes
-
-  pub chosen-all : chosen All x ≡ true
-  unfolding chosen
-  chosen-all = refl
-
-  pub chosen-fabric : (fabric : ℕ) → chosen (Fabric fabric) x ≡ eqb (x .fabric) fabric
-  unfolding chosen
-  chosen-fabric fabric = refl
-
-  pub chosen-peer : (fabric peer : ℕ) → chosen (Peer fabric peer) x ≡ (eqb (x .fabric) fabric && eqb (x .peer) peer)
-  unfolding chosen
-  chosen-peer fabric peer = refl
-
-  pub chosen-id : (id : ℕ) → chosen (Id id) x ≡ eqb (x .id) id
-  unfolding chosen
-  chosen-id id = refl
-
-  pub chosen-expired : (now : Instant) → chosen (ExpiredAt now) x ≡ expired (x .reported) (x .longest) now
-  unfolding chosen isOver
-  chosen-expired now = refl
+  pub over-is : (now : Instant) → isOver x now ≡ expired (x .reported) (x .longest) now
+  unfolding isOver
+  over-is now = refl
 
   -- ---- what becomes of it
 

@@ -7,9 +7,9 @@ use Prim.Native.Nat.{ℕ, _≤_, max}
 use native.Mathlib.Omega.{arith}
 use borrow.Author.Tests.{le-leb, leb-true, lt-leb, leb-false}
 use lib.Dec.{eqb, leb}
-use Rattle.time.specs.declared.Instant.{Instant}
+use Rattle.instants.specs.declared.Instant.{Instant}
 use Rattle.time.specs.declared.KeepAlive.{KeepAlive}
-use Rattle.time.specs.Instants.{lastInstant}
+use Rattle.instants.specs.Instants.{lastInstant}
 use Rattle.time.specs.Intervals.{dueAfterSecs}
 use Rattle.time.proofs.Laws.{since-most, retry-most}
 use Rattle.subscription.specs.declared.Request.{Request}

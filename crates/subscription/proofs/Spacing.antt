@@ -7,9 +7,9 @@ use Prim.Native.Nat.{ℕ, _+_, _≤_, _<_}
 use native.Mathlib.Omega.{arith}
 use borrow.Author.Tests.{ne-eqb}
 use lib.Dec.{leb}
-use Rattle.time.specs.declared.Instant.{Instant}
+use Rattle.instants.specs.declared.Instant.{Instant}
 use Rattle.time.specs.declared.KeepAlive.{KeepAlive}
-use Rattle.time.specs.Instants.{lastInstant, neverReported}
+use Rattle.instants.specs.Instants.{lastInstant, neverReported}
 use Rattle.time.specs.Moments.{sinceReport}
 use Rattle.time.proofs.Laws.{backoff-least, backoff-most, since-within, retry-within}
 use Rattle.subscription.specs.declared.Subscription.{Subscription}

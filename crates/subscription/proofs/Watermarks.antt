@@ -6,7 +6,7 @@ use Prim.Native.Nat.{ℕ, _≤_}
 use native.Mathlib.Omega.{arith}
 use borrow.Author.Tests.{leb-true}
 use lib.Dec.{eqb, leb}
-use Rattle.time.specs.declared.Instant.{Instant}
+use Rattle.instants.specs.declared.Instant.{Instant}
 use Rattle.subscription.specs.declared.Request.{Request}
 use Rattle.subscription.specs.declared.Subscription.{Subscription}
 use Rattle.time.specs.Moments.{retryAt}

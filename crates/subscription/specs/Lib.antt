@@ -1,3 +1,2 @@
 pub mod When
 pub mod Life
-pub mod Choices

@@ -3,10 +3,10 @@
 use mathlib.Core.Bool.{Bool, true, false, cond, not, _&&_, _||_}
 use Prim.Native.Nat.{ℕ, _+_, min}
 use lib.Dec.{leb, eqb}
-use Rattle.time.specs.declared.Instant.{Instant}
+use Rattle.instants.specs.declared.Instant.{Instant}
 use Rattle.subscription.specs.declared.Request.{Request}
 use Rattle.subscription.specs.declared.Subscription.{Subscription}
-use Rattle.time.specs.Instants.{firstInstant, lastInstant, neverReported}
+use Rattle.instants.specs.Instants.{firstInstant, lastInstant, neverReported}
 use Rattle.time.specs.Moments.{retryAt}
 
 -- what stands in a place that holds no subscription

@@ -4,10 +4,10 @@
 use mathlib.Core.Bool.{Bool, cond, _&&_, _||_}
 use Prim.Native.Nat.{ℕ}
 use lib.Dec.{leb, ltb}
-use Rattle.time.specs.declared.Instant.{Instant}
+use Rattle.instants.specs.declared.Instant.{Instant}
 use Rattle.time.specs.declared.KeepAlive.{KeepAlive}
 use Rattle.subscription.specs.declared.Subscription.{Subscription}
-use Rattle.time.specs.Instants.{laterOf}
+use Rattle.instants.specs.Instants.{laterOf}
 use Rattle.time.specs.Moments.{gateAt, dueAt, expired}
 
 -- "the gate is reported_at + min_int"

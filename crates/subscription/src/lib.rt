@@ -4,8 +4,7 @@
 ghost use mathlib.Core.Path.{_≡_};
 ghost use Rattle.subscription.specs.When.{gateOf, allowedOf, dueOf, isDue, pending, along, reportable, nextOf, isOver};
 ghost use Rattle.subscription.specs.Life.{priming, resumed, opened, givesUp, keeps, nextFails, storedWith, closed, failed};
-ghost use Rattle.subscription.specs.Choices.{chosen};
-use time::Instant;
+use instants::Instant;
 use time::KeepAlive;
 
 pub struct Subscription {
@@ -308,33 +307,5 @@ impl Subscription {
             return reported.is_never();
         }
         false
-    }
-}
-
-// Which subscriptions a removal takes.
-pub enum Choice {
-    All,
-    Fabric(u8),
-    Peer(u8, u64),
-    Id(u32),
-    ExpiredAt(Instant),
-}
-
-impl Choice {
-    pub fn takes(self, s: Subscription) -> bool
-        ensures { λ r. ⌜ r ≡ chosen self s ⌝ }
-    {
-        match self {
-            Choice::All => true,
-            Choice::Fabric(fabric) => s.fabric == fabric,
-            Choice::Peer(fabric, peer) => {
-                if s.fabric == fabric {
-                    return s.peer == peer;
-                }
-                false
-            }
-            Choice::Id(id) => s.id == id,
-            Choice::ExpiredAt(now) => s.is_expired(now),
-        }
     }
 }

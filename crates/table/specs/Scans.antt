@@ -17,7 +17,7 @@ use Rattle.table.specs.declared.scans.Test.the-variants.{Id, Report, Pri
 use Rattle.table.specs.declared.scans.Measure.{Measure}
 use Rattle.table.specs.declared.scans.Measure.the-variants.{Next, Due, Seen}
 use Rattle.lists.specs.Search.{some, count}
-use Rattle.subscription.specs.Choices.{chosen}
+use Rattle.choices.specs.Choices.{chosen}
 use Rattle.rules.specs.States.{isReport, isPriming, hasId, fabricZero}
 use Rattle.places.specs.Tests.{readyBy, ofFabric, served, struck, nextBy, icdDue, seenOf}
 

@@ -24,6 +24,8 @@ use admission::next_id;
 use answers::Change;
 use answers::Told;
 use changes::ChangedAttrs;
+use choices::Choice;
+use instants::Instant;
 use keeping::cancel_fits;
 use keeping::either;
 use keeping::lives;
@@ -63,11 +65,9 @@ use scans::find_stored;
 use scans::least_stored;
 use scans::one_at;
 use subscription::ABANDONED;
-use subscription::Choice;
 use subscription::Request;
 use subscription::Settings;
 use subscription::Subscription;
-use time::Instant;
 use time::KeepAlive;
 
 // How many places there are.

@@ -1,19 +1,18 @@
--- What floors above may use of instants and intervals. They never open a definition of this crate.
+-- What floors above may use of intervals and the instants that they lead to. They never open a definition of this crate.
 -- Assumes nothing.
 use mathlib.Core.Path.{_≡_, refl}
 use mathlib.Core.Bool.{Bool, true, false, cond}
 use Prim.Native.Nat.{ℕ, _+_, _*_, _-_, _/_, _^_, _≤_, _<_, min, max}
 use native.Mathlib.Omega.{arith}
-use borrow.Author.Tests.{le-leb, leb-true, lt-leb}
 use lib.Dec.{leb}
 use lib.Pow.{pow-pos}
-use Rattle.time.specs.declared.Instant.{Instant}
-use Rattle.time.specs.declared.Later.the-variants.{At, Overflow}
+use Rattle.instants.specs.declared.Instant.{Instant}
 use Rattle.time.specs.declared.KeepAlive.{KeepAlive}
 use Rattle.time.specs.declared.KeepAlive.the-variants.{Default, Icd}
-use Rattle.time.specs.Instants.{instant, firstInstant, lastInstant, later, orElse, neverReported}
+use Rattle.instants.specs.Instants.{instant, firstInstant, lastInstant, later, orElse, neverReported}
 use Rattle.time.specs.Intervals.{backoffSecs, dueAfterSecs, icdMaxSecs, grantedMaxSecs}
 use Rattle.time.specs.Moments.{sinceReport, retryAt, expired}
+use Rattle.instants.proofs.Laws.{later-within, later-past, else-most}
 
 -- the pause before a retry is never shorter than two seconds
 pub backoff-least : (fails longest : ℕ) → 2 ≤ backoffSecs fails longest
@@ -38,36 +37,26 @@ due-least Default longest h = omega arith
 due-least Icd longest h = omega arith
 
 module _ (from : Instant) (secs : ℕ) (within : from .ms + secs * 1000 ≤ lastInstant .ms) where
-  -- up to the last instant a sum is the plain sum
-  pub later-within : later from secs ≡ At (instant (from .ms + secs * 1000))
-  unfolding later
-  later-within = rw (le-leb _ _ within, later)
-
   -- the gate and the due instant of a subscription that has reported
   pub since-within : neverReported from ≡ false → sinceReport from secs ≡ instant (from .ms + secs * 1000)
   unfolding sinceReport
-  since-within h = rw (h, later-within, sinceReport)
+  since-within h = rw (h, later-within from secs within, sinceReport)
 
   -- a subscription expires at that sum
   pub expired-within : (now : Instant) → expired from secs now ≡ leb (from .ms + secs * 1000) (now .ms)
   unfolding expired
-  expired-within now = rw later-within
+  expired-within now = rw (later-within from secs within)
 
 module _ (from : Instant) (secs : ℕ) (past : lastInstant .ms < from .ms + secs * 1000) where
-  -- past the last instant there is no sum
-  pub later-past : later from secs ≡ Overflow
-  unfolding later
-  later-past = rw (lt-leb _ _ past, later)
-
-  -- there the gate is open and the report due
+  -- past the last instant the gate is open and the report due
   pub since-past : neverReported from ≡ false → sinceReport from secs ≡ firstInstant
   unfolding sinceReport
-  since-past h = rw (h, later-past, sinceReport)
+  since-past h = rw (h, later-past from secs past, sinceReport)
 
   -- and the subscription does not expire
   pub expired-past : (now : Instant) → expired from secs now ≡ false
   unfolding expired
-  expired-past now = rw later-past
+  expired-past now = rw (later-past from secs past)
 
 -- the gate of a subscription that has never reported is open, and its report due
 pub since-never : (from : Instant) (secs : ℕ) → neverReported from ≡ true → sinceReport from secs ≡ firstInstant
@@ -87,15 +76,6 @@ unfolding retryAt
 retry-past opened fails longest h = rw (later-past opened (backoffSecs fails longest) h)
 
 -- ---- none of these is past the last instant
-
-else-most : (from other : Instant) (secs : ℕ) → other .ms ≤ lastInstant .ms → orElse (later from secs) other .ms ≤ lastInstant .ms
-unfolding later
-else-most from other secs h = go (leb (from .ms + secs * 1000) (lastInstant .ms)) refl
-  where
-    go : (b : Bool) → leb (from .ms + secs * 1000) (lastInstant .ms) ≡ b
-        → orElse (cond b (At (instant (from .ms + secs * 1000))) Overflow) other .ms ≤ lastInstant .ms
-    go true e = leb-true _ _ e
-    go false e = h
 
 pub since-most : (from : Instant) (secs : ℕ) → sinceReport from secs .ms ≤ lastInstant .ms
 unfolding sinceReport

@@ -1,3 +1,2 @@
-pub mod Instants
 pub mod Intervals
 pub mod Moments

@@ -4,11 +4,11 @@
 use mathlib.Core.Bool.{Bool, false, cond}
 use Prim.Native.Nat.{ℕ}
 use lib.Dec.{leb}
-use Rattle.time.specs.declared.Instant.{Instant}
-use Rattle.time.specs.declared.Later.{Later}
-use Rattle.time.specs.declared.Later.the-variants.{At, Overflow}
+use Rattle.instants.specs.declared.Instant.{Instant}
+use Rattle.instants.specs.declared.Later.{Later}
+use Rattle.instants.specs.declared.Later.the-variants.{At, Overflow}
 use Rattle.time.specs.declared.KeepAlive.{KeepAlive}
-use Rattle.time.specs.Instants.{firstInstant, lastInstant, later, orElse, neverReported}
+use Rattle.instants.specs.Instants.{firstInstant, lastInstant, later, orElse, neverReported}
 use Rattle.time.specs.Intervals.{backoffSecs, dueAfterSecs}
 
 -- "A reported_at of 2^64 − 1 means never reported: due at 0, minimum gate 0."; "On overflow both become 0."

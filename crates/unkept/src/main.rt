@@ -7,7 +7,9 @@ ghost use Prim.Native.Nat.{_<_};
 use answers::Change;
 use answers::Told;
 use changes::ChangedAttrs;
+use choices::Choice;
 use entries::ChangedAttr;
+use instants::Instant;
 use libc::STDOUT_FILENO;
 use notes::Held;
 use places::Admission;
@@ -27,12 +29,10 @@ use places::Waking;
 use places::Woken;
 use refusal::Refusal;
 use round::Rounding;
-use subscription::Choice;
 use subscription::Request;
 use subscription::SENT;
 use subscription::Settings;
 use subscription::Subscription;
-use time::Instant;
 use time::KeepAlive;
 
 const REQUEST: Request = Request {

@@ -9,8 +9,8 @@ use Rattle.answering.specs.Replies.{handOutReply}
 use Rattle.subscription.specs.declared.Settings.{Settings}
 use Rattle.places.specs.Calls.{reportIn}
 use Rattle.places.specs.declared.Reported.{Reported}
-use Rattle.time.specs.Instants.{instant}
-use Rattle.time.specs.declared.Instant.{Instant}
+use Rattle.instants.specs.Instants.{instant}
+use Rattle.instants.specs.declared.Instant.{Instant}
 use Rattle.time.specs.declared.KeepAlive.{KeepAlive}
 use Rattle.answering.proofs.Passing.{passed-on}
 use Rattle.answering.proofs.reported.Statement.{statement}

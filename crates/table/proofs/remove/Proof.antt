@@ -11,7 +11,7 @@ use Rattle.refusal.specs.declared.Refusal.the-variants.{BadArgument}
 use Rattle.places.specs.Calls.{removeIn}
 use Rattle.places.specs.Views.{view}
 use Rattle.rules.specs.Machine.{firstOf}
-use Rattle.subscription.specs.Choices.{chosen}
+use Rattle.choices.specs.Choices.{chosen}
 use Rattle.rules.specs.Calls as call
 use Rattle.places.proofs.Refusing.{kept-counts, past-kept, unkept}
 use Rattle.places.proofs.Finding.{stored-there}

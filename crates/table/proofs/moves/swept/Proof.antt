@@ -6,7 +6,7 @@ use native.Mathlib.Omega.{arith}
 use borrow.Author.Needs.{needs}
 use lib.ListN.{length, length-set}
 use Rattle.places.specs.Moves.{sweptFrom}
-use Rattle.subscription.specs.Choices.{chosen}
+use Rattle.choices.specs.Choices.{chosen}
 use Rattle.table.proofs.Sweeping.{SameBut, same-on, sweep-start, sweep-out, sweep-kept, sweep-end}
 use Rattle.lists.proofs.Arrays.{full}
 use Rattle.table.proofs.moves.swept.Statement.{statement}

@@ -4,7 +4,7 @@ use mathlib.Core.Bool.{_&&_}
 use mathlib.Core.Path.{sym, ap, _∙_}
 use borrow.Author.Needs.{needs}
 use Rattle.places.specs.Tests.{struck}
-use Rattle.subscription.specs.Choices.{chosen}
+use Rattle.choices.specs.Choices.{chosen}
 use Rattle.table.proofs.scans.is_struck.Statement.{statement}
 use Rattle.table.proofs.scans.is_struck.Tie as tie
 

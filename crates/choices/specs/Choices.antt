@@ -2,10 +2,10 @@
 -- Assumes nothing.
 use mathlib.Core.Bool.{Bool, true, _&&_}
 use lib.Dec.{eqb}
 use Rattle.subscription.specs.declared.Subscription.{Subscription}
-use Rattle.subscription.specs.declared.Choice.{Choice}
-use Rattle.subscription.specs.declared.Choice.the-variants.{All, Fabric, Peer, Id, ExpiredAt}
+use Rattle.choices.specs.declared.Choice.{Choice}
+use Rattle.choices.specs.declared.Choice.the-variants.{All, Fabric, Peer, Id, ExpiredAt}
 use Rattle.subscription.specs.When.{isOver}
 
 -- "a choice (all, fabric, fabric and peer, id, expired at)"
 unfoldable pub chosen : Choice → Subscription → Bool

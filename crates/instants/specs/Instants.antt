@@ -1,12 +1,12 @@
 -- Instants, as document 01 has them, "Time": their ends, their sum with seconds, and the order of two of them.
--- What a sum past the last instant means is not the same for all: `Moments` says it for each.
+-- What a sum past the last instant means is not the same for all: crate time says it for each.
 -- Assumes nothing.
 use mathlib.Core.Bool.{Bool, cond}
 use Prim.Native.Nat.{ℕ, _+_, _*_, max}
 use lib.Dec.{leb, eqb}
-use Rattle.time.specs.declared.Instant.{Instant}
-use Rattle.time.specs.declared.Later.{Later}
-use Rattle.time.specs.declared.Later.the-variants.{At, Overflow}
+use Rattle.instants.specs.declared.Instant.{Instant}
+use Rattle.instants.specs.declared.Later.{Later}
+use Rattle.instants.specs.declared.Later.the-variants.{At, Overflow}
 
 -- "An instant is a u64 of milliseconds."
 abbrev pub instant : ℕ → Instant

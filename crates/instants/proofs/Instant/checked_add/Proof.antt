@@ -4,9 +4,9 @@ use Prim.Native.Nat.{_+_, _*_}
 use native.Mathlib.Omega.{arith}
 use borrow.Author.Needs.{needs}
 use borrow.Author.Tests.{le-leb, lt-leb}
-use Rattle.time.specs.Instants.{later, lastInstant}
-use Rattle.time.proofs.Instant.checked_add.Statement.{statement}
-use Rattle.time.proofs.Instant.checked_add.Tie as tie
+use Rattle.instants.specs.Instants.{later, lastInstant}
+use Rattle.instants.proofs.Instant.checked_add.Statement.{statement}
+use Rattle.instants.proofs.Instant.checked_add.Tie as tie
 
 mul-span : tie.Need-mul-span
 mul-span c = search needs

@@ -2,9 +2,9 @@
 -- Assumes nothing.
 use borrow.Author.Tests.{eq-eqb, ne-eqb}
 use borrow.Author.Needs.{needs}
-use Rattle.subscription.specs.Choices.{chosen}
-use Rattle.subscription.proofs.Choice.takes.Statement.{statement}
-use Rattle.subscription.proofs.Choice.takes.Tie as tie
+use Rattle.choices.specs.Choices.{chosen}
+use Rattle.choices.proofs.Choice.takes.Statement.{statement}
+use Rattle.choices.proofs.Choice.takes.Tie as tie
 
 enum-told : tie.Need-enum-told
 enum-told c = search needs
