@@ -490,7 +490,7 @@ fn purged(table: Table) -> Table
     }
     let log = table.log;
     if 0 < table.stored {
-        let first = table.places[0];
+        let first = one_at(table, 0);
         let after = log.purge_up_to(least_stored(table, Measure::Seen, first.seen));
         let left = after.log;
         return with_log(table, left);

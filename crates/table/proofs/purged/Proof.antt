@@ -10,8 +10,8 @@ returns : tie.Need-returns
 unfolding purgedTable
 returns c = rw (lt-ltb _ _ (c .if1 .taken), purgedTable)
 
-element-copy-out-first : tie.Need-element-copy-out-first
-element-copy-out-first c = search needs
+one-at-requires : tie.Need-one-at-requires
+one-at-requires c κs = search needs
 
 least-stored-requires : tie.Need-least-stored-requires
 least-stored-requires c κs = search needs
@@ -25,7 +25,7 @@ with-log-requires c κs = search needs
 returns-2 : tie.Need-returns-2
 unfolding purgedTable
 returns-2 c =
-    rw (le-ltb _ _ (c .before .before .before .before .before .before .before .if1 .left), lt-ltb _ _ (c .before .before .before .before .before .if2 .taken), purgedTable) (rw (← c .before .before .before .least-stored .ensures, ← c .before .before .purge-up-to .ensures) (c .with-log .ensures))
+    rw (le-ltb _ _ (c .before .before .before .before .before .before .before .before .if1 .left), lt-ltb _ _ (c .before .before .before .before .before .if2 .taken), purgedTable) (rw (← c .before .before .before .before .one-at .ensures, ← c .before .before .before .least-stored .ensures, ← c .before .before .purge-up-to .ensures) (c .with-log .ensures))
 
 clear-requires : tie.Need-clear-requires
 clear-requires c κs = search needs
@@ -36,14 +36,14 @@ with-log-requires-2 c κs = search needs
 returns-3 : tie.Need-returns-3
 unfolding purgedTable
 returns-3 c =
-    rw (le-ltb _ _ (c .before .before .before .before .before .if1 .left), le-ltb _ _ (c .before .before .before .if2 .left), purgedTable) (rw (← c .before .before .clear .ensures) (c .with-log2 .ensures))
+    rw (le-ltb _ _ (c .before .before .before .before .before .before .if1 .left), le-ltb _ _ (c .before .before .before .if2 .left), purgedTable) (rw (← c .before .before .clear .ensures) (c .with-log2 .ensures))
 
 pub purged-spec : {M : Type 1} → statement M
 purged-spec =
     tie.close
     (tie.spec
     returns
-    element-copy-out-first
+    one-at-requires
     least-stored-requires
     purge-up-to-requires
     with-log-requires
