@@ -1,3 +1,4 @@
 pub mod Cases
+pub mod Answering
 pub mod Promises
 pub mod Numbers

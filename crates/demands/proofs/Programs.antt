@@ -14,7 +14,7 @@ use Rattle.subscription.specs.declared.Settings.{Settings}
 use Rattle.instants.specs.Instants.{instant}
 use Rattle.lists.specs.Search.{some}
 use Rattle.lists.proofs.Bools.{clash, or-neither}
-use Rattle.lists.proofs.Orders.{count-nil}
+use Rattle.lists.proofs.Counts.{count-nil}
 use Rattle.rules.specs.States.{State, fresh}
 use Rattle.rules.specs.Calls as call
 use Rattle.rules.specs.Calls.{Op}

@@ -20,7 +20,7 @@ use Rattle.rules.specs.Rounds.{isRound, plainly}
 use Rattle.heard.specs.Hearing.{isNote, notesIn, handsOut, endsHeard, acts, unheardBy}
 use Rattle.rules.specs.Calls as call
 use Rattle.lists.proofs.Bools.{and-both, and-left, or-neither, or-right}
-use Rattle.lists.proofs.Orders.{some-cons, count-cons, count-nil, none-one, count-taken-newest, first-meets}
+use Rattle.lists.proofs.Counts.{some-cons, count-cons, count-nil, none-one, count-taken-newest, first-meets}
 use Rattle.entries.proofs.Covering.{covers-self, path-covers}
 use Rattle.changes.proofs.Promises.{note-new, note-grows, reached-changed, came-next}
 use Rattle.changes.specs.Reach.{fresh as new-log}

@@ -19,7 +19,8 @@ use Rattle.rules.specs.Rounds.{handedId}
 use Rattle.heard.specs.Playing.{Turn, withEvents, turned, saysNothing, nobody, whom, also, play, plainOutcome, odd, allowedBy}
 use Rattle.rules.specs.Calls as call
 use Rattle.lists.proofs.Bools.{split, or-neither}
-use Rattle.lists.proofs.Orders.{both-fewer, some-cons, count-nil, none-count, none-counted, one-yes, one-no, count-cons, counts-distinct}
+use Rattle.lists.proofs.Counts.{both-fewer, some-cons, count-nil, none-count, one-yes, one-no, count-cons}
+use Rattle.lists.proofs.Numbers.{none-counted, counts-distinct}
 use Rattle.subscription.proofs.Spacing.{reportable-allowed}
 use Rattle.rules.proofs.Acts.{ready-is}
 use Rattle.rules.proofs.Sound.{kept-sound}

@@ -24,7 +24,7 @@ use Rattle.heard.specs.Playing.{Between, noting, purging, asCall, betwee
 use Rattle.rules.specs.Calls as call
 use Rattle.lists.proofs.Bools.{split, clash, and-both, or-left, or-right}
 use Rattle.lists.proofs.Searches.{some-append, some-weaken}
-use Rattle.lists.proofs.Orders.{some-rest, some-nil, some-cons, count-nil, count-cons, some-count, count-some, one-no, count-taken}
+use Rattle.lists.proofs.Counts.{some-rest, some-nil, some-cons, count-nil, count-cons, some-count, count-some, one-no, count-taken}
 use Rattle.changes.proofs.Promises.{reached-any}
 use Rattle.subscription.proofs.Spacing.{changed-reportable}
 use Rattle.rules.proofs.Clauses.{has-id-is}

@@ -22,8 +22,8 @@ use Rattle.heard.specs.Playing.{Played, also, play, turned, bare, crampe
 use Rattle.heard.specs.Demand.{noted, RoundBegins, NobodyTwice, RoundHears, RoundCallPlays}
 use Rattle.rules.specs.Calls as call
 use Rattle.lists.proofs.Bools.{split, or-neither}
-use Rattle.lists.proofs.Orders.{both-fewer, count-none, count-some, count-every, some-cons}
-use Rattle.changes.proofs.Promises.{watermark-below}
+use Rattle.lists.proofs.Counts.{both-fewer, count-none, count-some, count-every, some-cons}
+use Rattle.changes.proofs.Answering.{watermark-below}
 use Rattle.rules.proofs.Clauses.{round-objects}
 use Rattle.rules.proofs.Acts.{act-round, roundEnds, round-over, round-goes-on, round-falls-silent, run-none}
 use Rattle.rules.proofs.Kept.{always-well-kept}

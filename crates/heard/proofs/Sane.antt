@@ -21,8 +21,9 @@ use Rattle.rules.specs.Rounds.{isRound}
 use Rattle.heard.specs.Hearing.{isNote}
 use Rattle.rules.specs.Calls as call
 use Rattle.lists.proofs.Bools.{split, or-left, or-right, or-either, or-neither}
-use Rattle.lists.proofs.Orders.{count-nil}
-use Rattle.changes.proofs.Promises.{watermark-below, note-grows, purge-next, clear-next, came-next}
+use Rattle.lists.proofs.Counts.{count-nil}
+use Rattle.changes.proofs.Answering.{watermark-below}
+use Rattle.changes.proofs.Promises.{note-grows, purge-next, clear-next, came-next}
 use Rattle.subscription.proofs.Watermarks.{priming-seen, priming-mark, resumed-seen, resumed-mark, opened-seen, opened-mark, closed-seen, closed-mark}
 use Rattle.rules.proofs.Acts.{act-note, act-purge, new-made, new-refused}
 use Rattle.rules.proofs.Refusals.{step-either}

@@ -22,7 +22,8 @@ use Rattle.heard.specs.Hearing.{isNote}
 use Rattle.rules.specs.Calls as call
 use Rattle.lists.proofs.Bools.{split, clash, or-left, or-right, or-neither}
 use Rattle.lists.proofs.Searches.{some-append}
-use Rattle.lists.proofs.Orders.{some-long, some-nil, some-cons, none-count, least-most}
+use Rattle.lists.proofs.Counts.{some-long, some-nil, some-cons, none-count}
+use Rattle.lists.proofs.Numbers.{least-most}
 use Rattle.changes.proofs.Promises.{note-grows, note-keeps, purge-next, purge-keeps}
 use Rattle.rules.proofs.Acts.{act-note, act-purge, new-made, new-refused}
 use Rattle.rules.proofs.Refusals.{step-either}

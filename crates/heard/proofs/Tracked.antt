@@ -21,7 +21,7 @@ use Rattle.rules.specs.Rounds.{isRound, handedId}
 use Rattle.heard.specs.Hearing.{handsOut, endsHeard, acts}
 use Rattle.rules.specs.Calls as call
 use Rattle.lists.proofs.Bools.{split, clash, and-both, and-true, or-neither, or-left, or-right}
-use Rattle.lists.proofs.Orders.{some-cons}
+use Rattle.lists.proofs.Counts.{some-cons}
 use Rattle.subscription.proofs.Laws.{priming-id, resumed-id, opened-id, closed-id}
 use Rattle.subscription.proofs.Watermarks.{opened-seen, closed-seen, closed-mark, kept-most}
 use Rattle.rules.proofs.Clauses.{has-id-is}

@@ -18,7 +18,7 @@ use Rattle.rules.specs.Machine.{firstOf, badOutcome, ready, nextUp, openedIn, r
 use Rattle.heard.specs.Playing.{Between, noting, purging, asCall, between, Turn, turned}
 use Rattle.rules.specs.Calls as call
 use Rattle.lists.proofs.Bools.{and-right, or-left}
-use Rattle.lists.proofs.Orders.{some-cons, in-front, newest-out, count-taken, count-end}
+use Rattle.lists.proofs.Counts.{some-cons, in-front, newest-out, count-taken, count-end}
 use Rattle.subscription.proofs.Laws.{opened-id}
 use Rattle.rules.proofs.Clauses.{has-id-is, complete-objects, refusal-kept, first-passed, first-none}
 use Rattle.rules.proofs.Acts.{act-note, act-purge, act-complete, reported-one, run-none, run-more}

@@ -12,7 +12,7 @@ use Rattle.rules.specs.Calls as call
 use Rattle.heard.proofs.Sane.{sane-step}
 use Rattle.heard.proofs.Histories.{fresh-sane, sane-run, note-tracked, tracked-run, tracked-yes}
 use Rattle.rules.proofs.Sound.{kept-sound}
-use Rattle.changes.proofs.Promises.{watermark-below}
+use Rattle.changes.proofs.Answering.{watermark-below}
 
 pub unheard-stays-yes : UnheardStaysYes
 unheard-stays-yes capacity before since endpoint cluster attr i e c a able few live unheard under there =

@@ -19,7 +19,7 @@ use Rattle.rules.specs.States.{State, isReport, reportOpen, hasId, wellKept}
 use Rattle.rules.specs.Machine.{badOutcome, changedFor, ready, nextUp, openedIn, reported}
 use Rattle.heard.specs.Playing.{Turn, withEvents, turned, plainOutcome, spaced, cramped, allowedBy}
 use Rattle.lists.proofs.Bools.{and-both, and-true, or-either}
-use Rattle.lists.proofs.Orders.{both-fewer, one-yes, one-no, none-one, count-taken, first-meets}
+use Rattle.lists.proofs.Counts.{both-fewer, one-yes, one-no, none-one, count-taken, first-meets}
 use Rattle.subscription.proofs.Laws.{opened-id, closed-id}
 use Rattle.subscription.proofs.Watermarks.{opened-shortest, opened-longest, opened-opened, closed-shortest, closed-longest, kept-most}
 use Rattle.subscription.proofs.Spacing.{sent-waits, retry-waits, reportable-allowed}

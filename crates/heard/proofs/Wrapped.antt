@@ -22,8 +22,9 @@ use Rattle.rules.specs.Rounds.{handedId, callsFor, plainly}
 use Rattle.heard.specs.Hearing.{isNote, notesIn, unheardBy, unheard}
 use Rattle.heard.specs.Demand.{noted}
 use Rattle.rules.specs.Calls as call
-use Rattle.lists.proofs.Orders.{some-nil, count-nil, count-cons, count-append}
-use Rattle.changes.proofs.Promises.{entries-held, next-held, note-answer, after-last, after-others}
+use Rattle.lists.proofs.Counts.{some-nil, count-nil, count-cons, count-append}
+use Rattle.changes.proofs.Answering.{entries-held, next-held, note-answer}
+use Rattle.changes.proofs.Promises.{after-last, after-others}
 use Rattle.rules.proofs.Clauses.{note-objects, refusal-kept, first-none}
 use Rattle.rules.proofs.Acts.{act-note, run-more}
 use Rattle.rules.proofs.Refusals.{unrefused-acts}

@@ -2,7 +2,8 @@ pub mod Bools
 pub mod Searches
 pub mod Removals
 pub mod Arrays
-pub mod Orders
+pub mod Counts
+pub mod Numbers
 pub mod Places
 pub mod Parts
 pub mod Maps

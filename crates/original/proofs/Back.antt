@@ -11,7 +11,7 @@ use borrow.Author.Tests.{eqb-true, eq-eqb, not-true, not-false}
 use lib.Dec.{eqb}
 use Rattle.lists.specs.Search.{one, some, count, firstBy}
 use Rattle.lists.proofs.Bools.{split, and-both, or-left, or-right}
-use Rattle.lists.proofs.Orders.{none-one, count-nil, count-cons, count-some, some-cons, in-front}
+use Rattle.lists.proofs.Counts.{none-one, count-nil, count-cons, count-some, some-cons, in-front}
 use Rattle.changes.specs.Reach.{Tidy}
 use Rattle.subscription.specs.declared.Subscription as one
 use Rattle.subscription.specs.Life.{blank}
@@ -22,7 +22,7 @@ use Rattle.rules.proofs.Acts.{run-none, run-more}
 use Rattle.rules.proofs.Clauses.{has-id-is}
 use Rattle.rules.proofs.Sound.{Sound}
 use Rattle.rules.proofs.Steps.{fresh-sound, step-sound}
-use Rattle.changes.proofs.Promises.{fresh-tidy}
+use Rattle.changes.proofs.Answering.{fresh-tidy}
 use Rattle.original.specs.Std.{unwrapOr}
 use Rattle.original.specs.Subscription.{Subscription}
 use Rattle.original.specs.Table.{ownsSlot}

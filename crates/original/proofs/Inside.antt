@@ -7,7 +7,7 @@ use mathlib.Core.List.{List, [], _∷_, _++_}
 use Prim.Native.Nat.{ℕ}
 use Rattle.lists.specs.Search.{some}
 use Rattle.lists.proofs.Bools.{or-neither}
-use Rattle.lists.proofs.Orders.{some-nil, some-cons}
+use Rattle.lists.proofs.Counts.{some-nil, some-cons}
 use Rattle.time.specs.declared.KeepAlive.the-variants.{Default, Icd}
 use Rattle.instants.specs.Instants.{instant}
 use Rattle.choices.specs.declared.Choice.the-variants.{Peer}

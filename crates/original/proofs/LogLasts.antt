@@ -13,7 +13,8 @@ use Rattle.lists.proofs.Bools.{split}
 use Rattle.changes.specs.declared.ChangedAttrs.{ChangedAttrs}
 use Rattle.changes.specs.Logs.{kept, freshLog, noted, purged, cleared}
 use Rattle.changes.specs.Reach.{Tidy}
-use Rattle.changes.proofs.Promises.{after-most, fresh-tidy, note-next, note-tidy, purge-next, purge-tidy, clear-next, clear-tidy}
+use Rattle.changes.proofs.Answering.{fresh-tidy}
+use Rattle.changes.proofs.Promises.{after-most, note-next, note-tidy, purge-next, purge-tidy, clear-next, clear-tidy}
 use Rattle.rules.specs.States.{State}
 use Rattle.rules.specs.Calls as call
 use Rattle.rules.specs.Calls.{Settings, Op}

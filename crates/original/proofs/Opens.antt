@@ -11,7 +11,7 @@ use native.Mathlib.Omega.{arith}
 use Rattle.lists.specs.Search.{one, some, count, changeFirst, firstBy}
 use Rattle.lists.specs.Removal.{takeOutNewest}
 use Rattle.lists.proofs.Bools.{split, clash, or-neither}
-use Rattle.lists.proofs.Orders.{one-yes, one-no, none-one, count-taken, none-count}
+use Rattle.lists.proofs.Counts.{one-yes, one-no, none-one, count-taken, none-count}
 use Rattle.lists.proofs.Maps.{some-map, first-map, newest-taken-map}
 use Rattle.subscription.specs.declared.Subscription.{Subscription}
 use Rattle.subscription.specs.Life.{blank}

@@ -13,7 +13,8 @@ use lib.ListN.{length, length-map}
 use Rattle.lists.specs.Search.{one, some, count, leastBy}
 use Rattle.lists.specs.Removal.{sweep}
 use Rattle.lists.proofs.Bools.{split, or-neither, and-left}
-use Rattle.lists.proofs.Orders.{one-yes, one-no, count-none, count-some, none-count, none-counted}
+use Rattle.lists.proofs.Counts.{one-yes, one-no, count-none, count-some, none-count}
+use Rattle.lists.proofs.Numbers.{none-counted}
 use Rattle.lists.proofs.Maps.{some-map, sweep-map}
 use Rattle.changes.specs.declared.ChangedAttrs as changes
 use Rattle.changes.specs.Logs.{kept, purged, cleared}

@@ -12,7 +12,7 @@ use lib.ListN.{length, length-append, length-map}
 use Rattle.lists.specs.Search.{some}
 use Rattle.lists.specs.Removal.{takeOutNewest}
 use Rattle.lists.proofs.Bools.{split}
-use Rattle.lists.proofs.Orders.{count-taken-newest, count-every, first-meets}
+use Rattle.lists.proofs.Counts.{count-taken-newest, count-every, first-meets}
 use Rattle.subscription.specs.declared.Subscription as one
 use Rattle.subscription.specs.Life.{blank, closed, keeps}
 use Rattle.rules.specs.States.{State, counted, isReport, hasId}

@@ -11,7 +11,7 @@ use Rattle.refusal.specs.declared.Refusal.{Refusal}
 use Rattle.refusal.specs.declared.Refusal.the-variants.{Full, NotOpen, ReportOpen, IdLive, BadArgument, PrimingOpen, NotWellKept, BadLine}
 use Rattle.lists.specs.Search.{some}
 use Rattle.lists.proofs.Bools.{clash, or-neither}
-use Rattle.lists.proofs.Orders.{count-nil, some-cons}
+use Rattle.lists.proofs.Counts.{count-nil, some-cons}
 use Rattle.rules.specs.States.{State, fresh}
 use Rattle.rules.specs.Calls as call
 use Rattle.rules.specs.Calls.{Op}

@@ -27,7 +27,8 @@ use Rattle.changes.specs.Logs.{entriesOf, kept, identityAfter, watermarkOf, not
 use Rattle.notes.proofs.Cases.{placed-found, placed-new, entered-found, entered-new, inserted-room, inserted-full, crowded-fine, crowded-coarse, crowded-wild, refreshed-is}
 use Rattle.changes.proofs.Cases.{kept-next}
 use Rattle.notes.proofs.Groups.{largest-covers, folded-room}
-use Rattle.changes.proofs.Promises.{entries-held, next-held, entries-fit, note-answer, purge-answer, clear-answer, after-last, after-others}
+use Rattle.changes.proofs.Answering.{entries-held, next-held, entries-fit, note-answer, purge-answer, clear-answer}
+use Rattle.changes.proofs.Promises.{after-last, after-others}
 use Rattle.original.specs.Std.{unwrapOr, wrappingAdd, push, removeWhile}
 use Rattle.original.specs.Entries.{wildcardEndpoint, wildcardCluster, wildcardAttr, withChangeId, covers}
 use Rattle.original.specs.Log.{ChangedAttrs, watermark, containsSince, anySince, purgeUpTo, clearLog, promoteLargestGroup, refresh, orPromote, promoteAndInsert, recorded, recordRaw, recordConcrete, recordWildcard}

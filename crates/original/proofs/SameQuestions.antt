@@ -11,7 +11,8 @@ use borrow.Author.Tests.{ltb-false, not-false}
 use lib.Dec.{eqb}
 use Rattle.lists.specs.Search.{one, some, count, leastBy}
 use Rattle.lists.proofs.Bools.{split}
-use Rattle.lists.proofs.Orders.{none-one, count-cons, least-lower}
+use Rattle.lists.proofs.Counts.{none-one, count-cons}
+use Rattle.lists.proofs.Numbers.{least-lower}
 use Rattle.lists.proofs.Maps.{some-map, count-map}
 use Rattle.refusal.specs.declared.Refusal.the-variants.{NotOpen}
 use Rattle.instants.specs.declared.Instant.{Instant}

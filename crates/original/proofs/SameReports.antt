@@ -9,7 +9,7 @@ use native.Mathlib.Omega.{arith}
 use Rattle.lists.specs.Search.{some, firstBy}
 use Rattle.lists.specs.Removal.{takeOut}
 use Rattle.lists.proofs.Bools.{split}
-use Rattle.lists.proofs.Orders.{count-taken, count-every}
+use Rattle.lists.proofs.Counts.{count-taken, count-every}
 use Rattle.lists.proofs.Maps.{some-map, first-map, taken-map}
 use Rattle.changes.specs.Logs.{watermarkOf}
 use Rattle.subscription.specs.declared.Settings.{Settings}

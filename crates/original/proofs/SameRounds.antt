@@ -10,7 +10,7 @@ use lib.ListN.{set}
 use Rattle.lists.specs.Search.{some}
 use Rattle.lists.specs.Removal.{takeOutNewest}
 use Rattle.lists.proofs.Bools.{split, or-neither}
-use Rattle.lists.proofs.Orders.{some-cons, newest-out}
+use Rattle.lists.proofs.Counts.{some-cons, newest-out}
 use Rattle.changes.specs.Logs.{watermarkOf}
 use Rattle.subscription.specs.declared.Settings.{Settings}
 use Rattle.subscription.proofs.Laws.{opened-id}

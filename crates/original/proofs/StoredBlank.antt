@@ -9,7 +9,7 @@ use native.Mathlib.Omega.{arith}
 use lib.Dec.{eqb}
 use Rattle.lists.specs.Search.{some, count}
 use Rattle.lists.proofs.Bools.{split}
-use Rattle.lists.proofs.Orders.{one-no, count-nil, count-end, count-taken, count-swept}
+use Rattle.lists.proofs.Counts.{one-no, count-nil, count-end, count-taken, count-swept}
 use Rattle.changes.specs.Logs.{watermarkOf}
 use Rattle.subscription.specs.declared.Request.{Request}
 use Rattle.subscription.specs.declared.Subscription.{Subscription}

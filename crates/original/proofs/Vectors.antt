@@ -12,7 +12,7 @@ use lib.ListN.{length, take, getD, getElem?}
 use Rattle.lists.specs.Search.{some, changeFirst, firstBy, leastBy}
 use Rattle.lists.specs.Removal.{lastOf, initOf, refilled, sweepFor, sweep, takeOut}
 use Rattle.lists.proofs.Bools.{split}
-use Rattle.lists.proofs.Orders.{least-start}
+use Rattle.lists.proofs.Numbers.{least-start}
 use Rattle.original.specs.Std.{isSome, mapSome, swapRemove, position, find, findMut, removeWhile, minFrom}
 use Rattle.original.specs.Table.{removedAt, swapRemoved}
 

@@ -29,7 +29,7 @@ use Rattle.places.specs.Calls.{aliveAt, purgedTable, purgeIn}
 use Rattle.places.specs.Agreement.{settledSays, aliveSays}
 use Rattle.rules.specs.Calls as call
 use Rattle.lists.proofs.Bools.{split}
-use Rattle.lists.proofs.Orders.{least-lower}
+use Rattle.lists.proofs.Numbers.{least-lower}
 use Rattle.subscription.proofs.Laws.{due-most}
 use Rattle.rules.proofs.Acts.{act-purge, act-alive, alive-none, alive-some}
 use Rattle.places.proofs.Refusing.{kept-counts}

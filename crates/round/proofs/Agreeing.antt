@@ -22,7 +22,7 @@ use Rattle.places.specs.Agreement.{handOutAnswer, reportSays}
 use Rattle.round.specs.Rounds.{refuses, isShut, saysNothing, isSilent, noTurn, turnAfter, turnOf, served}
 use Rattle.rules.specs.Calls as call
 use Rattle.lists.proofs.Bools.{split, or-neither}
-use Rattle.lists.proofs.Orders.{some-cons}
+use Rattle.lists.proofs.Counts.{some-cons}
 use Rattle.rules.proofs.Acts.{round-over, round-goes-on, round-falls-silent}
 use Rattle.rules.proofs.Kept.{step-well-kept}
 use Rattle.rules.proofs.Sound.{kept-sound, sound-kept}

@@ -13,7 +13,7 @@ use Rattle.places.specs.declared.Table.{Table}
 use Rattle.lists.specs.Search.{some}
 use Rattle.rules.specs.Machine.{badOutcome}
 use Rattle.round.specs.Rounds.{turnOf, served}
-use Rattle.lists.proofs.Orders.{some-nil, some-cons}
+use Rattle.lists.proofs.Counts.{some-nil, some-cons}
 
 module _ (os : List ℕ) (i : ℕ) where
   -- an outcome that is none is found

@@ -12,7 +12,7 @@ use borrow.Author.Tests.{not-false}
 use Rattle.refusal.specs.declared.Refusal.{Refusal}
 use Rattle.lists.specs.Search.{one, some}
 use Rattle.lists.proofs.Bools.{split, or-neither}
-use Rattle.lists.proofs.Orders.{some-cons, count-every}
+use Rattle.lists.proofs.Counts.{some-cons, count-every}
 use Rattle.subscription.specs.Life.{keeps}
 use Rattle.rules.specs.States.{State, hasId}
 use Rattle.rules.specs.Calls as call

@@ -12,7 +12,7 @@ use native.Mathlib.Omega.{arith}
 use borrow.Author.Tests.{not-true, le-ltb}
 use lib.Dec.{leb}
 use lib.ListN.{length}
-use Rattle.lists.proofs.Orders.{count-nil, none-count}
+use Rattle.lists.proofs.Counts.{count-nil, none-count}
 use Rattle.instants.specs.declared.Instant.{Instant}
 use Rattle.time.specs.declared.KeepAlive.{KeepAlive}
 use Rattle.instants.specs.Instants.{lastInstant}

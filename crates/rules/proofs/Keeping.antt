@@ -11,7 +11,7 @@ use lib.Dec.{eqb}
 use Rattle.lists.specs.Search.{one, some}
 use Rattle.lists.specs.Removal.{takeOutNewest}
 use Rattle.lists.proofs.Bools.{split, or-either, or-left, or-right}
-use Rattle.lists.proofs.Orders.{count-cons, some-cons, one-no, one-most, count-append, count-some, some-count, count-none, count-taken-newest}
+use Rattle.lists.proofs.Counts.{count-cons, some-cons, one-no, one-most, count-append, count-some, some-count, count-none, count-taken-newest}
 use Rattle.instants.specs.declared.Instant.{Instant}
 use Rattle.changes.specs.Logs.{watermarkOf}
 use Rattle.subscription.specs.declared.Subscription.{Subscription}

@@ -6,7 +6,7 @@ use mathlib.Core.Bool.{true, false, and-false}
 use mathlib.Core.List.{List, [], _∷_}
 use Prim.Native.Nat.{ℕ}
 use Rattle.lists.specs.Search.{some}
-use Rattle.lists.proofs.Orders.{some-nil, some-cons}
+use Rattle.lists.proofs.Counts.{some-nil, some-cons}
 use Rattle.rules.specs.States.{State, fresh, capacityFits, wellKept}
 use Rattle.rules.specs.Calls.{Op}
 use Rattle.rules.specs.Histories.{refusedBy}

@@ -12,7 +12,8 @@ use lib.Dec.{leb}
 use lib.ListN.{length}
 use Rattle.lists.specs.Search.{some}
 use Rattle.lists.proofs.Bools.{split, or-left, or-neither}
-use Rattle.lists.proofs.Orders.{some-cons, some-same, least-most}
+use Rattle.lists.proofs.Counts.{some-cons}
+use Rattle.lists.proofs.Numbers.{some-same, least-most}
 use Rattle.instants.specs.declared.Instant.{Instant}
 use Rattle.time.specs.declared.KeepAlive.{KeepAlive}
 use Rattle.instants.specs.Instants.{lastInstant}

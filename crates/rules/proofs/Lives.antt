@@ -10,7 +10,7 @@ use borrow.Author.Tests.{eq-eqb}
 use Rattle.lists.specs.Search.{one, some, count}
 use Rattle.lists.specs.Removal.{takeOut}
 use Rattle.lists.proofs.Bools.{split, or-left}
-use Rattle.lists.proofs.Orders.{count-nil, count-cons, some-cons, in-front, newest-out, count-every, count-end, count-taken, count-taken-newest, count-swept}
+use Rattle.lists.proofs.Counts.{count-nil, count-cons, some-cons, in-front, newest-out, count-every, count-end, count-taken, count-taken-newest, count-swept}
 use Rattle.instants.specs.declared.Instant.{Instant}
 use Rattle.changes.specs.Logs.{watermarkOf}
 use Rattle.subscription.specs.declared.Subscription.{Subscription}

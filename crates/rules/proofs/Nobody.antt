@@ -10,7 +10,8 @@ use native.Mathlib.Omega.{arith}
 use borrow.Author.Tests.{not-false}
 use Rattle.lists.specs.Search.{one, some}
 use Rattle.lists.proofs.Bools.{split, and-right, or-neither}
-use Rattle.lists.proofs.Orders.{count-nil, none-count, none-counted, one-no, none-one, some-cons, count-taken, count-taken-newest, first-meets}
+use Rattle.lists.proofs.Counts.{count-nil, none-count, one-no, none-one, some-cons, count-taken, count-taken-newest, first-meets}
+use Rattle.lists.proofs.Numbers.{none-counted}
 use Rattle.changes.specs.Logs.{watermarkOf}
 use Rattle.subscription.specs.declared.Subscription.{Subscription}
 use Rattle.subscription.specs.Life.{blank, priming, resumed, closed, keeps}

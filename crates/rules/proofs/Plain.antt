@@ -13,7 +13,7 @@ use Rattle.refusal.specs.declared.Refusal.{Refusal}
 use Rattle.lists.specs.Search.{one, some, count}
 use Rattle.lists.proofs.Bools.{split}
 use Rattle.lists.proofs.Searches.{some-append}
-use Rattle.lists.proofs.Orders.{count-append, count-none, one-no}
+use Rattle.lists.proofs.Counts.{count-append, count-none, one-no}
 use Rattle.rules.specs.States.{State}
 use Rattle.rules.specs.Calls as call
 use Rattle.rules.specs.Calls.{Settings, Op}

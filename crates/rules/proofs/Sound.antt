@@ -9,7 +9,8 @@ use borrow.Author.Tests.{leb-true, le-leb, not-true}
 use lib.Dec.{eqb, leb}
 use Rattle.lists.specs.Search.{some, count, distinct}
 use Rattle.lists.proofs.Bools.{and-both, and-true}
-use Rattle.lists.proofs.Orders.{count-append, count-none, none-count, distinct-counts, counts-distinct}
+use Rattle.lists.proofs.Counts.{count-append, count-none, none-count}
+use Rattle.lists.proofs.Numbers.{distinct-counts, counts-distinct}
 use Rattle.changes.specs.Logs.{kept}
 use Rattle.rules.specs.States.{State, counted, liveOnes, isReport, reportOpen, hasId, capacityFits, fabricZero, wellKept}
 use Rattle.rules.proofs.Lives.{lives, every, lives-counted}

@@ -10,7 +10,7 @@ use lib.Dec.{eqb, ltb}
 use lib.ListN.{length}
 use Rattle.lists.specs.Search.{some}
 use Rattle.lists.proofs.Bools.{split, and-both, or-right}
-use Rattle.lists.proofs.Orders.{count-nil}
+use Rattle.lists.proofs.Counts.{count-nil}
 use Rattle.lists.proofs.Searches.{some-weaken}
 use Rattle.changes.specs.declared.ChangedAttrs.{ChangedAttrs}
 use Rattle.changes.specs.Logs.{kept}
@@ -24,7 +24,7 @@ use Rattle.rules.proofs.Lives.{every, removed-lives, cleared-lives, tur
 use Rattle.rules.proofs.Sound.{Sound}
 use mathlib.Core.Option.{none}
 use borrow.Author.Tests.{not-false}
-use Rattle.changes.proofs.Promises.{fresh-kept}
+use Rattle.changes.proofs.Answering.{fresh-kept}
 use Rattle.rules.specs.Calls as call
 use Rattle.rules.proofs.Refusals.{step-either}
 use Rattle.rules.proofs.Objections.{unobjected, no-objection}

@@ -12,7 +12,7 @@ use lib.ListN.{length}
 use lib.Seq.{sets}
 use Rattle.lists.specs.Search.{some}
 use Rattle.lists.proofs.Bools.{split, or-neither}
-use Rattle.lists.proofs.Orders.{some-cons}
+use Rattle.lists.proofs.Counts.{some-cons}
 use Rattle.rules.specs.States.{State, reportOpen, wellKept}
 use Rattle.rules.specs.Calls as call
 use Rattle.rules.specs.Calls.{Settings, Op}

@@ -18,7 +18,7 @@ use Rattle.rules.specs.States.{isReport, fabricZero}
 use Rattle.places.specs.Views.{placeOf}
 use Rattle.table.specs.Scans.{Lived}
 use Rattle.lists.proofs.Bools.{split}
-use Rattle.lists.proofs.Orders.{count-cons}
+use Rattle.lists.proofs.Counts.{count-cons}
 use Rattle.lists.proofs.Parts.{drop-next}
 
 module _ (places : List Subscription) (s o : ℕ) (long : length places ≡ 80) (fits : s + o ≤ 80) where

@@ -11,7 +11,7 @@ use Rattle.changes.specs.Logs.{newestOf}
 use Rattle.rules.specs.Calls as call
 use Rattle.places.proofs.Refusing.{kept-counts, kept-log, no-refusal, unkept}
 use Rattle.rules.proofs.Clauses.{any-objects}
-use Rattle.changes.proofs.Promises.{newest-answer}
+use Rattle.changes.proofs.Answering.{newest-answer}
 use Rattle.table.proofs.any_reportable.Statement.{statement}
 use Rattle.table.proofs.any_reportable.Tie as tie
 

@@ -6,7 +6,7 @@ use borrow.Author.Needs.{needs}
 use Rattle.places.specs.Calls.{firstReady, handOutIn}
 use Rattle.answers.specs.Numbers.{markValue}
 use Rattle.changes.specs.Logs.{watermarkOf, newestOf}
-use Rattle.changes.proofs.Promises.{mark-answer, newest-answer}
+use Rattle.changes.proofs.Answering.{mark-answer, newest-answer}
 use Rattle.table.proofs.hand_out.Statement.{statement}
 use Rattle.table.proofs.hand_out.Tie as tie
 

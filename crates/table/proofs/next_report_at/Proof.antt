@@ -11,7 +11,7 @@ use Rattle.changes.specs.Logs.{newestOf}
 use Rattle.rules.specs.Calls as call
 use Rattle.places.proofs.Refusing.{kept-counts, kept-log, no-refusal, unkept}
 use Rattle.rules.proofs.Clauses.{instant-objects}
-use Rattle.changes.proofs.Promises.{newest-answer}
+use Rattle.changes.proofs.Answering.{newest-answer}
 use Rattle.table.proofs.next_report_at.Statement.{statement}
 use Rattle.table.proofs.next_report_at.Tie as tie
 

@@ -12,7 +12,7 @@ use Rattle.changes.specs.Logs.{watermarkOf}
 use Rattle.rules.specs.Calls as call
 use Rattle.places.proofs.Refusing.{kept-counts, kept-log, past-kept, unkept, resume-same, room-left}
 use Rattle.table.proofs.Verdicts.{verdict-clear, verdict-why}
-use Rattle.changes.proofs.Promises.{mark-answer}
+use Rattle.changes.proofs.Answering.{mark-answer}
 use Rattle.lists.proofs.Arrays.{full}
 use Rattle.table.proofs.resume.Statement.{statement}
 use Rattle.table.proofs.resume.Tie as tie

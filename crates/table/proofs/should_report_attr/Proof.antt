@@ -15,7 +15,7 @@ use Rattle.rules.specs.Machine.{firstOf}
 use Rattle.rules.specs.States.{hasId}
 use Rattle.rules.specs.Calls as call
 use Rattle.places.proofs.Refusing.{kept-counts, kept-log, past-kept, unkept}
-use Rattle.changes.proofs.Promises.{path-answer}
+use Rattle.changes.proofs.Answering.{path-answer}
 use Rattle.places.proofs.Finding.{open-there}
 use Rattle.rules.proofs.Clauses.{attribute-objects, first-holds, first-passed, first-none}
 use Rattle.lists.proofs.Arrays.{full}

@@ -13,7 +13,7 @@ use Rattle.subscription.specs.Life.{blank}
 use Rattle.table.proofs.Steps.{place-below, Passing, pass-begin, pass-step, pass-end, live-length, live-at}
 use Rattle.lists.specs.Search.{one}
 use Rattle.lists.proofs.Arrays.{full}
-use Rattle.lists.proofs.Orders.{one-most}
+use Rattle.lists.proofs.Counts.{one-most}
 use Rattle.table.proofs.keeping.lives.Statement.{statement}
 use Rattle.table.proofs.keeping.lives.Tie as tie
 

@@ -11,7 +11,7 @@ use Rattle.places.specs.Views.{storedOf}
 use Rattle.subscription.specs.Life.{blank}
 use Rattle.lists.specs.Search.{leastBy}
 use Rattle.lists.proofs.Arrays.{full, least-next, least-done}
-use Rattle.lists.proofs.Orders.{least-bound}
+use Rattle.lists.proofs.Numbers.{least-bound}
 use Rattle.table.proofs.scans.least_stored.Statement.{statement}
 use Rattle.table.proofs.scans.least_stored.Tie as tie
 
