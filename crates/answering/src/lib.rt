@@ -4,11 +4,11 @@
 // a refusal, and a value. A refused `new` leaves the table that was there. Every table and every line is taken; how a line
 // is read and an answer printed is not said here.
 ghost use mathlib.Core.Path.{_≡_};
-ghost use Rattle.lists.specs.Search.{one};
 ghost use Rattle.answering.specs.Replies.{told, refusedWith, admissionReply, hearingReply, handOutReply, completionReply, toldReply, momentReply};
 ghost use Rattle.answering.specs.Answers.{requestOf, settingsOf, renewedIn, addedIn, notedIn, reportedIn, doneIn, askedIn, wakingIn, unreadIn, answerIn};
 use answers::Change;
 use answers::Told;
+use answers::flag;
 use instants::Instant;
 use lines::Line;
 use places::Admission;
@@ -270,13 +270,4 @@ fn refused(why: Refusal) -> Reply
         code: why.number(),
         value: 0,
     }
-}
-
-fn flag(so: bool) -> u64
-    ensures { λ r. ⌜ r ≡ one so ⌝ }
-{
-    if so {
-        return 1;
-    }
-    0
 }

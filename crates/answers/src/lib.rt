@@ -1,6 +1,7 @@
 // The answers of the change log: a value, or the refusal. Their numbers in document 01 are in specs/. Which call gives which answer is
 // crate changes' matter; the table answers with some of them too.
 ghost use mathlib.Core.Path.{_≡_};
+ghost use Rattle.lists.specs.Search.{one};
 ghost use Rattle.answers.specs.Numbers.{markValue, saysYes};
 use refusal::Refusal;
 
@@ -52,4 +53,11 @@ impl Mark {
             Mark::Refused(_) => 0,
         }
     }
+}
+
+// Document 01's value of a yes or no: 1 for yes, 0 for no.
+pub fn flag(yes: bool) -> u64
+    ensures { λ r. ⌜ r ≡ one yes ⌝ }
+{
+    if yes { 1 } else { 0 }
 }

@@ -11,13 +11,13 @@ use lib.Seq.{length-take-le}
 use Rattle.subscription.specs.declared.Subscription.{Subscription}
 use Rattle.places.specs.declared.Table.{Table}
 use Rattle.lists.specs.Search.{first, some}
-use Rattle.places.specs.Views.{storedOf, opensOf}
+use Rattle.places.specs.Views.{storedOf, opensOf, firstOpen}
 use Rattle.lists.proofs.Bools.{split}
 use Rattle.lists.proofs.Searches.{first-some}
 
 -- the place that a scan of the open ones finds is one of the eighty exactly where there is one
 pub open-there : (t : Table) → length (t .places) ≡ 80 → t .opens ≤ 80 → (p : Subscription → Bool) {i : ℕ}
-    → i ≡ 80 - t .opens + first p (opensOf t) → ltb i 80 ≡ some p (opensOf t)
+    → i ≡ firstOpen t p → ltb i 80 ≡ some p (opensOf t)
 open-there t long fits p {i} e =
     let size : length (opensOf t) ≡ t .opens = length-drop (80 - t .opens) (t .places) ∙ (omega arith) in
     split (ltb (first p (opensOf t)) (length (opensOf t)))

@@ -47,7 +47,7 @@ use Rattle.instants.specs.Instants.{instant, lastInstant, neverReported}
 use Rattle.subscription.specs.Life.{blank, priming, resumed, opened, closed, keeps, failed}
 use Rattle.subscription.specs.When.{isDue}
 use Rattle.rules.specs.Machine.{Objection, nextIdAfter}
-use Rattle.places.specs.Views.{storedOf, opensOf, freshTable, refusalAt}
+use Rattle.places.specs.Views.{storedOf, opensOf, firstOpen, freshTable, refusalAt}
 use Rattle.rules.specs.Calls as call
 
 -- by what a call is refused with, if it is
@@ -117,6 +117,10 @@ aliveAt t =
     settledBy (refusalAt call.nextKeepAlive t) alive.Refused
     (cond (eqb (t .stored) 0) alive.Never (alive.At (instant (leastBy icdDue (lastInstant .ms) (storedOf t)))))
 
+-- "stored of a fabric, 0 if no fabric is asked"
+abbrev pub fabricCount : Table → ℕ → ℕ
+fabricCount t fabric = cond (eqb fabric 0) 0 (count (ofFabric fabric) (storedOf t))
+
 -- "statistics (counted places; stored of a fabric, 0 if no fabric is asked; next id − 1, at least 0)"
 unfoldable pub loadOf : Table → ℕ → Loaded
 loadOf t fabric =
@@ -124,7 +128,7 @@ loadOf t fabric =
     (loaded.Is
     (record {
       places = t .stored + t .opens;
-      fabric = cond (eqb fabric 0) 0 (count (ofFabric fabric) (storedOf t));
+      fabric = fabricCount t fabric;
       established = t .next - 1;
     }))
 
@@ -172,7 +176,7 @@ notCompleted t why = record { answer = completion.Refused why; table = t }
 
 -- the place of the first open one with the id
 unfoldable pub openAt : Table → ℕ → ℕ
-openAt t id = 80 - t .opens + first (hasId id) (opensOf t)
+openAt t id = firstOpen t (hasId id)
 
 -- "A cancelled report is dropped under each outcome."
 abbrev pub staysAfter : ℕ → Subscription → ℕ → Bool

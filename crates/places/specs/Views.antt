@@ -11,6 +11,7 @@ use Rattle.refusal.specs.declared.Refusal.{Refusal}
 use Rattle.refusal.specs.declared.Refusal.the-variants.{NotWellKept}
 use Rattle.subscription.specs.declared.Subscription.{Subscription}
 use Rattle.places.specs.declared.Table.{Table}
+use Rattle.lists.specs.Search.{first}
 use Rattle.changes.specs.Logs.{freshLog}
 use Rattle.subscription.specs.Life.{blank}
 use Rattle.rules.specs.States.{State, wellKept}
@@ -24,6 +25,10 @@ storedOf t = take (t .stored) (t .places)
 -- the open report and the primings, the newest first
 abbrev pub opensOf : Table → List Subscription
 opensOf t = drop (80 - t .opens) (t .places)
+
+-- the place of the first open one that p holds of, or the number of places where there is none
+abbrev pub firstOpen : Table → (Subscription → Bool) → ℕ
+firstOpen t p = 80 - t .opens + first p (opensOf t)
 
 -- where the i-th live one stands: the open ones begin behind a gap
 abbrev pub placeOf : ℕ → ℕ → ℕ → ℕ

@@ -2,7 +2,6 @@
 use super::replies::Answered;
 use super::replies::Reply;
 use super::replies::bad;
-use super::replies::flag;
 use super::replies::none;
 use super::replies::one;
 use super::replies::refused;
@@ -13,6 +12,7 @@ use super::words::low8;
 use super::words::low16;
 use super::words::low32;
 use answers::Change;
+use answers::flag;
 use fields::Numbers;
 use fields::PLACES;
 use fields::read_fields;

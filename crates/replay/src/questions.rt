@@ -1,6 +1,5 @@
 // The lines of questions to a table and to its log.
 use super::replies::Reply;
-use super::replies::flag;
 use super::replies::one;
 use super::replies::refused;
 use super::replies::three;
@@ -11,6 +10,7 @@ use super::words::low16;
 use super::words::low32;
 use answers::Mark;
 use answers::Told;
+use answers::flag;
 use changes::ChangedAttrs;
 use fields::Numbers;
 use fields::read_fields;

@@ -2,12 +2,12 @@
 use super::replies::Answered;
 use super::replies::Reply;
 use super::replies::bad;
-use super::replies::flag;
 use super::replies::one;
 use super::replies::refused;
 use super::words::is_word;
 use super::words::low8;
 use super::words::low32;
+use answers::flag;
 use choices::Choice;
 use fields::Numbers;
 use fields::read_fields;

@@ -1,7 +1,5 @@
 // What a line is answered with: document 01's number, 0 where the call acted, and the values that it tells. What a line asks is not known
 // here.
-ghost use mathlib.Core.Path.{_≡_};
-ghost use Rattle.lists.specs.Search.{one as oneIf};
 use super::texts::behind;
 use super::texts::put_numbers;
 use places::Table;
@@ -66,13 +64,6 @@ pub(crate) fn acted(values: [u64; VALUES], count: usize) -> Reply {
         count: count,
         code: 0,
     }
-}
-
-// 1 for yes, 0 for no.
-pub(crate) fn flag(yes: bool) -> u64
-    ensures { λ r. ⌜ r ≡ oneIf yes ⌝ }
-{
-    if yes { 1 } else { 0 }
 }
 
 // Puts line number, code and values into `out` at `at`, a space behind them, and answers the place after it.

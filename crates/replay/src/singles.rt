@@ -2,10 +2,10 @@
 use super::replies::Reply;
 use super::replies::VALUES;
 use super::replies::acted;
-use super::replies::flag;
 use super::replies::refused;
 use super::words::low8;
 use super::words::low16;
+use answers::flag;
 use changes::ChangedAttrs;
 use fields::Numbers;
 use fields::PLACES;

@@ -1,11 +1,11 @@
 // The lines of instants and intervals, which take no state. A line that none of the files before knew either is bad.
 use super::replies::Reply;
-use super::replies::flag;
 use super::replies::one;
 use super::replies::refused;
 use super::words::low8;
 use super::words::low16;
 use super::words::low32;
+use answers::flag;
 use fields::Numbers;
 use fields::read_fields;
 use instants::Instant;

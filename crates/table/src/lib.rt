@@ -9,15 +9,12 @@ mod moves;
 mod scans;
 
 ghost use mathlib.Core.Path.{_≡_};
-ghost use mathlib.Core.Bool.{true, cond};
+ghost use mathlib.Core.Bool.{true};
 ghost use Prim.Native.Nat.{_+_, _-_, _≤_};
-ghost use lib.Dec.{eqb};
-ghost use Rattle.lists.specs.Search.{count};
 ghost use Rattle.rules.specs.Machine.{badReason};
 ghost use Rattle.changes.specs.Logs.{kept as logKept};
-ghost use Rattle.places.specs.Views.{freshTable, storedOf, kept};
-ghost use Rattle.places.specs.Tests.{ofFabric};
-ghost use Rattle.places.specs.Calls.{newTable, notAdmitted, addTo, resumeIn, notCompleted, completeIn, attributeAt, sendAt, notWoken, cancelsIn, removeIn, clearIn, purgedTable, purgeIn, noteIn, notReported, handOutIn, reportIn, anyAt, nextAt, aliveAt, loadOf, hasAt};
+ghost use Rattle.places.specs.Views.{freshTable, kept};
+ghost use Rattle.places.specs.Calls.{newTable, notAdmitted, addTo, resumeIn, notCompleted, completeIn, attributeAt, sendAt, notWoken, cancelsIn, removeIn, clearIn, purgedTable, purgeIn, noteIn, notReported, handOutIn, reportIn, anyAt, nextAt, aliveAt, fabricCount, loadOf, hasAt};
 use admission::Verdict;
 use admission::admits;
 use admission::next_id;
@@ -34,6 +31,7 @@ use moves::emptied;
 use moves::ended;
 use moves::handed;
 use moves::opened_up;
+use moves::reason_after;
 use moves::stored_last;
 use moves::swept;
 use moves::with_cancel;
@@ -473,13 +471,6 @@ fn is_bad_reason(reason: u8) -> bool
     CLEARED <= reason
 }
 
-// The cancel reason afterwards.
-fn reason_after(cancels: bool, reason: u8, before: u8) -> u8
-    ensures { λ r. ⌜ r ≡ cond cancels reason before ⌝ }
-{
-    if cancels { reason } else { before }
-}
-
 // The table without the entries that every stored one has seen.
 fn purged(table: Table) -> Table
     requires { ⌜ table .stored ≤ 80 ⌝ }
@@ -503,7 +494,7 @@ fn purged(table: Table) -> Table
 // How many stored ones are of the fabric; none where no fabric is asked.
 fn of_fabric(table: Table, fabric: u8) -> usize
     requires { ⌜ table .stored ≤ 80 ⌝ }
-    ensures { λ r. ⌜ r ≡ cond (eqb fabric 0) 0 (count (ofFabric fabric) (storedOf table)) ⌝ }
+    ensures { λ r. ⌜ r ≡ fabricCount table fabric ⌝ }
 {
     if fabric == 0 {
         return 0;

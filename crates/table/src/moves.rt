@@ -55,7 +55,7 @@ pub(crate) fn ended(mut table: Table, at: usize, outcome: u8) -> Completed
     table.places[at] = newest;
     table.places[first] = Subscription::BLANK;
     table.opens = opens - 1;
-    table.cancel = reason_left(x.reporting, before);
+    table.cancel = reason_after(x.reporting, 0, before);
     let stays = stays(before, x, outcome);
     if stays {
         let n = table.stored;
@@ -172,9 +172,9 @@ fn is_cancelled(reporting: bool, reason: u8) -> bool
     false
 }
 
-// The reason that is left when an open one ends: it goes with the report.
-fn reason_left(reporting: bool, reason: u8) -> u8
-    ensures { λ r. ⌜ r ≡ cond reporting 0 reason ⌝ }
+// The cancel reason afterwards: a new one where something is cancelled, none where the cancelled report ends.
+pub(crate) fn reason_after(changes: bool, reason: u8, before: u8) -> u8
+    ensures { λ r. ⌜ r ≡ cond changes reason before ⌝ }
 {
-    if reporting { 0 } else { reason }
+    if changes { reason } else { before }
 }

@@ -1,10 +1,10 @@
 // Looking over the stored or the open ones: where the first is that passes a test, how many do, and the least of a measure.
 ghost use mathlib.Core.Path.{_≡_};
-ghost use Prim.Native.Nat.{_+_, _-_, _≤_, _<_, min};
+ghost use Prim.Native.Nat.{_≤_, _<_, min};
 ghost use lib.ListN.{getD};
 ghost use Rattle.lists.specs.Search.{count, first, leastBy};
 ghost use Rattle.subscription.specs.Life.{blank};
-ghost use Rattle.places.specs.Views.{storedOf, opensOf};
+ghost use Rattle.places.specs.Views.{storedOf, firstOpen};
 ghost use Rattle.places.specs.Tests.{served, struck};
 ghost use Rattle.table.specs.Scans.{passes, measured};
 use super::PLACES;
@@ -99,7 +99,7 @@ pub(crate) fn find_stored(table: Table, test: Test) -> usize
 // The place of the first open one that passes the test, or the number of places where none does.
 pub(crate) fn find_open(table: Table, test: Test) -> usize
     requires { ⌜ table .opens ≤ 80 ⌝ }
-    ensures { λ r. ⌜ r ≡ 80 - table .opens + first (passes test) (opensOf table) ⌝ }
+    ensures { λ r. ⌜ r ≡ firstOpen table (passes test) ⌝ }
 {
     let mut i = PLACES - table.opens;
     while i < 80 {

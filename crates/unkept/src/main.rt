@@ -6,6 +6,7 @@ ghost use mathlib.Core.Bool.{true};
 ghost use Prim.Native.Nat.{_<_};
 use answers::Change;
 use answers::Told;
+use answers::flag;
 use changes::ChangedAttrs;
 use choices::Choice;
 use entries::ChangedAttr;
@@ -400,10 +401,6 @@ fn back(given: Table, table: Table) {
     } else {
         word(b" changed\n");
     }
-}
-
-fn flag(yes: bool) -> u64 {
-    if yes { 1 } else { 0 }
 }
 
 fn wide(id: u32) -> u64 {

@@ -59,8 +59,8 @@ element-set-from-table c = search needs
 sub-table : tie.Need-sub-table
 sub-table c = search needs
 
-reason-left-requires : tie.Need-reason-left-requires
-reason-left-requires c κs = search needs
+reason-after-requires : tie.Need-reason-after-requires
+reason-after-requires c κs = search needs
 
 stays-requires : tie.Need-stays-requires
 stays-requires c κs = search needs
@@ -85,7 +85,7 @@ unfolding storedLast closedAt
 returns c =
     let a = c .before .before .before .before .before .before .args in
     let s = c .before .before .stays .ensures in
-    let r = c .before .before .before .reason-left .ensures in
+    let r = c .before .before .before .reason-after .ensures in
     sym (told (a .t1) (a .at) (a .outcome) s (c .has-failed .ensures)
     (⊎-elim
     (λ w. w .2 ∙ rw (w .0 .taken, ← r, ← w .1 .ensures))
@@ -106,7 +106,7 @@ ended-spec =
     mul-t12
     element-set-from-table
     sub-table
-    reason-left-requires
+    reason-after-requires
     stays-requires
     close-requires
     mul-t28
