@@ -1,7 +1,6 @@
 -- `complete` meets its contract: the tests are the objections, in their order, and the scan finds the open one.
 -- Assumes nothing.
 use mathlib.Core.List.{[]}
-use mathlib.Core.Bool.{not}
 use mathlib.Core.Path.{_≡_, sym, ap, _∙_}
 use native.Mathlib.Omega.{arith}
 use borrow.Author.Tests.{lt-ltb, le-ltb, not-true, not-false}
@@ -14,7 +13,7 @@ use Rattle.rules.specs.Machine.{firstOf}
 use Rattle.rules.specs.States.{hasId}
 use Rattle.rules.specs.Calls as call
 use Rattle.places.proofs.Refusing.{kept-counts, past-kept, unkept}
-use Rattle.places.proofs.Finding.{open-there}
+use Rattle.places.proofs.Finding.{none-open, one-open}
 use Rattle.rules.proofs.Clauses.{complete-objects, first-holds, first-passed, first-none}
 use Rattle.lists.proofs.Arrays.{full}
 use Rattle.table.proofs.complete.Statement.{statement}
@@ -60,7 +59,7 @@ returns-3 c =
     let t = a .table in
     let k = sym (c .before .before .before .before .before .is-kept .ensures) ∙ not-false _ (c .before .before .before .before .if1 .left) in
     let b = kept-counts t k in
-    let none = ap not (sym (open-there t (long (c .before .before .before .before .before .before)) (omega arith) (hasId (a .id)) (c .before .before .find-open .ensures)) ∙ le-ltb _ _ (c .before .if3 .taken)) in
+    let none = none-open t (long (c .before .before .before .before .before .before)) (omega arith) (hasId (a .id)) (c .before .before .find-open .ensures) (c .before .if3 .taken) in
     rw (past-kept t k (call.complete (a .id) (a .outcome)) ∙ ap firstOf (complete-objects (view t) (a .id) (a .outcome)) ∙ first-passed BadArgument _ (le-ltb _ _ (c .before .before .before .if2 .left)) ∙ first-holds NotOpen [] none, completeIn) (c .not-completed3 .ensures)
 
 ended-requires : tie.Need-ended-requires
@@ -75,7 +74,7 @@ returns-4 c =
     let t = a .table in
     let k = sym (c .before .before .before .before .before .is-kept .ensures) ∙ not-false _ (c .before .before .before .before .if1 .left) in
     let b = kept-counts t k in
-    let there = ap not (sym (open-there t (long (c .before .before .before .before .before .before)) (omega arith) (hasId (a .id)) (c .before .before .find-open .ensures)) ∙ lt-ltb _ _ (c .before .if3 .left)) in
+    let there = one-open t (long (c .before .before .before .before .before .before)) (omega arith) (hasId (a .id)) (c .before .before .find-open .ensures) (c .before .if3 .left) in
     rw (past-kept t k (call.complete (a .id) (a .outcome)) ∙ ap firstOf (complete-objects (view t) (a .id) (a .outcome)) ∙ first-passed BadArgument _ (le-ltb _ _ (c .before .before .before .if2 .left)) ∙ first-passed NotOpen [] there ∙ first-none, ← c .before .before .find-open .ensures, completeIn) (c .ended .ensures)
 
 pub complete-spec : {M : Type 1} → statement M
