@@ -3,6 +3,8 @@
 // Document 01, "Trace lines": the seven kinds of line are seven calls of the table; each answers a code, 0 or the number of
 // a refusal, and a value. A refused `new` leaves the table that was there. Every table and every line is taken; how a line
 // is read and an answer printed is not said here.
+#![tactic(auto)]
+
 ghost use Rattle.std.specs.Prelude.{◌≡◌};
 ghost use Rattle.answering.specs.Replies.{told, refused_with, admission_reply, hearing_reply, hand_out_reply, completion_reply, told_reply, moment_reply};
 ghost use Rattle.answering.specs.Answers.{request_of, settings_of, renewed_in, added_in, noted_in, reported_in, done_in, asked_in, waking_in, unread_in, answer_in};
@@ -16,13 +18,13 @@ use subscription::{Request, Settings};
 use time::KeepAlive;
 
 // A line's code and value.
-#[derive(Drop)]
+#[derive(Clone, Copy)]
 pub struct Reply {
     pub code: u8,
     pub value: u64,
 }
 
-#[derive(Drop)]
+#[derive(Clone, Copy)]
 pub struct Answered {
     pub table: Table,
     pub reply: Reply,

@@ -1,5 +1,7 @@
 // The answers of the change log: a value, or the refusal. Their numbers in document 01 are in specs/. Which call gives which answer is
 // crate changes' matter; the table answers with some of them too.
+#![tactic(auto)]
+
 ghost use Rattle.std.specs.Prelude.{◌≡◌};
 ghost use Rattle.lists.specs.Search.{one};
 ghost use Rattle.answers.specs.Numbers.{mark_value, says_yes};
@@ -7,31 +9,31 @@ ghost use Rattle.answers.specs.Numbers.{mark_value, says_yes};
 use refusal::Refusal;
 
 // What a note that was entered is told.
-#[derive(Drop)]
+#[derive(Clone, Copy)]
 pub struct Entered {
     pub identity: u64,
 }
 
-#[derive(Drop)]
+#[derive(Clone, Copy)]
 pub enum NoteAnswer {
     Entered(Entered),
     Refused(Refusal),
 }
 
 // The answer of a call that changes the log and has nothing to tell.
-#[derive(Drop)]
+#[derive(Clone, Copy)]
 pub enum Change {
     Done,
     Refused(Refusal),
 }
 
-#[derive(Drop)]
+#[derive(Clone, Copy)]
 pub enum Told {
     Is(bool),
     Refused(Refusal),
 }
 
-#[derive(Drop)]
+#[derive(Clone, Copy)]
 pub enum Mark {
     At(u64),
     Refused(Refusal),

@@ -1,5 +1,7 @@
 // The change log: document 01, "Change log". Sixteen entries say which paths have changed, each with the identity of its latest change.
 // Every public call refuses a log that isn't well kept and hands it back as it was. Who has seen which change is not known here.
+#![tactic(auto)]
+
 ghost use Rattle.std.specs.Prelude.{◌≡◌};
 ghost use Rattle.changes.specs.Logs.{empty_log, kept, identity_after, fresh_log, noted, purged, cleared, marked, newest_mark, any_told, path_told};
 
@@ -11,19 +13,19 @@ use refusal::Refusal;
 // The log: the entries that it holds, and the identity that the next note takes. Its layout is C's, so that a host in another language can
 // lend one.
 #[repr(C)]
-#[derive(Drop)]
+#[derive(Clone, Copy)]
 pub struct ChangedAttrs {
     pub held: Held,
     pub next: u64,
 }
 
-#[derive(Drop)]
+#[derive(Clone, Copy)]
 pub struct Noted {
     pub answer: NoteAnswer,
     pub log: ChangedAttrs,
 }
 
-#[derive(Drop)]
+#[derive(Clone, Copy)]
 pub struct Changed {
     pub answer: Change,
     pub log: ChangedAttrs,

@@ -1,4 +1,6 @@
 // Which subscriptions a removal takes: document 01, "Table". The removal itself is crate table's matter.
+#![tactic(auto)]
+
 ghost use Rattle.std.specs.Prelude.{◌≡◌};
 ghost use Rattle.choices.specs.Choices.{chosen};
 
@@ -6,7 +8,7 @@ use instants::Instant;
 use subscription::Subscription;
 
 // Which subscriptions a removal takes.
-#[derive(Drop)]
+#[derive(Clone, Copy)]
 pub enum Choice {
     All,
     Fabric(u8),

@@ -3,6 +3,8 @@
 // Document 01, "Trace lines": a line ends at CRLF alone. A reading goes from byte to byte, and a line's bytes stand in a
 // buffer that the caller lends, whose length is the longest line that is read; so an input may come in chunks of any
 // length. Every reading, buffer and byte is taken. What a line says is not read here.
+#![tactic(auto)]
+
 ghost use Rattle.std.specs.Prelude.{◌≡◌, ◌<◌};
 ghost use Rattle.cutting.specs.Steps.{fresh_of, still_of, ended_of, ending_of, spoilt_of, waiting_of, holding_of, ends_of, step_of, scan_of, close_of};
 
@@ -13,7 +15,7 @@ pub const MOST_LINES: u64 = 1_000_000;
 
 // The line that is being read: how many of its bytes are held, whether it is bad already, whether its last byte was a
 // CR that may begin its end. `number` lines have ended before it, and reading stops when there are `most`.
-#[derive(Drop)]
+#[derive(Clone, Copy)]
 pub struct Reading {
     pub most: u64,
     pub number: u64,
@@ -23,7 +25,7 @@ pub struct Reading {
 }
 
 // A line that ended: a bad one, or one whose bytes are the first so many that are held.
-#[derive(Drop)]
+#[derive(Clone, Copy)]
 pub enum Found {
     Nothing,
     Bad,
@@ -31,14 +33,14 @@ pub enum Found {
 }
 
 // What a byte, or the input's end, leads to.
-#[derive(Drop)]
+#[derive(Clone, Copy)]
 pub struct Stepped {
     pub reading: Reading,
     pub found: Found,
 }
 
 // What the bytes up to a line's end, or all of them, lead to, and how many they were.
-#[derive(Drop)]
+#[derive(Clone, Copy)]
 pub struct Scanned {
     pub reading: Reading,
     pub found: Found,

@@ -1,4 +1,6 @@
 // Whether numbers are all different: one pass in the usual case, and exact in every case. It knows nothing of what the numbers name.
+#![tactic(auto)]
+
 ghost use Rattle.std.specs.Prelude.{◌≡◌, length, ◌≤◌};
 ghost use Rattle.std.proofs.Math.Seq.{slice};
 ghost use Rattle.distinct.specs.Differ.{holds, differ};

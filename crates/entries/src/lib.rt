@@ -1,12 +1,14 @@
 // One entry of the change log: document 01, "Change log". When an entry covers another, which entries a scan is after, and the coarser
 // entry that a group of them becomes. The array that holds them is crate notes' matter.
+#![tactic(auto)]
+
 ghost use Rattle.std.specs.Prelude.{◌≡◌};
 ghost use Rattle.entries.specs.Paths.{field_covers, field_matches, covers, matches, candidate, holds};
 
 // One entry: a path, and the identity of its latest change. A wild field stands for every value of it. Its layout is C's, as the log's, so
 // that a host in another language can lend one.
 #[repr(C)]
-#[derive(Drop)]
+#[derive(Clone, Copy)]
 pub struct ChangedAttr {
     pub identity: u64,
     pub cluster: u32,
@@ -15,7 +17,7 @@ pub struct ChangedAttr {
 }
 
 // Which entries a scan is after.
-#[derive(Drop)]
+#[derive(Clone, Copy)]
 pub enum Rule {
     // Those that cover the entry.
     Over(ChangedAttr),
@@ -30,7 +32,7 @@ pub enum Rule {
 }
 
 // How coarse a group is.
-#[derive(Drop)]
+#[derive(Clone, Copy)]
 pub enum Level {
     // All attributes of one cluster on one endpoint.
     Cluster,
@@ -39,7 +41,7 @@ pub enum Level {
 }
 
 // The coarser entry that stands for an entry's group, where it has one.
-#[derive(Drop)]
+#[derive(Clone, Copy)]
 pub enum Coarser {
     To(ChangedAttr),
     Nothing,

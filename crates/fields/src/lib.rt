@@ -2,12 +2,14 @@
 //
 // Document 01, "Trace lines": no sign, no leading zero, each within its width. The part goes from after a comma to the
 // line's end. Every part and every width is taken; what is no such field is `Bad`. Which fields a line has is not said here.
+#![tactic(auto)]
+
 ghost use Rattle.std.specs.Prelude.{◌≡◌, drop};
 ghost use Rattle.fields.specs.Fields.{field_of};
 ghost use Rattle.fields.specs.Rows.{numbers_of};
 ghost use Rattle.fields.specs.Inner.{zero_led, grow_of};
 
-#[derive(Drop)]
+#[derive(Clone, Copy)]
 pub enum Field {
     // A number with a comma behind it; the part after the comma starts at `next`.
     More { value: u64, next: usize },
@@ -17,7 +19,7 @@ pub enum Field {
 }
 
 // The numbers of as many fields as were asked for, in order, if `all` were there and nothing else.
-#[derive(Drop)]
+#[derive(Clone, Copy)]
 pub struct Numbers {
     pub all: bool,
     pub at: [u64; PLACES],
@@ -27,7 +29,7 @@ pub struct Numbers {
 pub const PLACES: usize = 12;
 
 // What a number becomes by one more byte.
-#[derive(Drop)]
+#[derive(Clone, Copy)]
 enum Grown {
     To(u64),
     Not,

@@ -1,16 +1,18 @@
 // Instants: document 01, "Time". A sum past the last instant is a case of its own, and what it means is not the same for all: whoever
 // meets it answers it in the open. Intervals and what they are for is crate time's matter.
+#![tactic(auto)]
+
 ghost use Rattle.std.specs.Prelude.{◌≡◌};
 ghost use Rattle.instants.specs.Instants.{instant, later, or_else, later_of, never_reported};
 
 // A moment, in milliseconds since the device started.
-#[derive(Drop)]
+#[derive(Clone, Copy)]
 pub struct Instant {
     pub ms: u64,
 }
 
 // The instant that lies so many seconds after another, or none.
-#[derive(Drop)]
+#[derive(Clone, Copy)]
 pub enum Later {
     At(Instant),
     Overflow,

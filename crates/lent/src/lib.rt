@@ -1,5 +1,7 @@
 // The change log, lent: document 01, "the host lends its log and the note is entered there". A thin form for a host in another language that
 // keeps its log in place; what a note does is crate changes' matter. No enum crosses to the host, so the answer is put in numbers.
+#![tactic(auto)]
+
 ghost use Rattle.std.specs.Prelude.{◌≡◌};
 ghost use Rattle.lent.specs.Lent.{lent_answer, lent, lent_note};
 
@@ -8,14 +10,14 @@ use changes::ChangedAttrs;
 
 // What the host is told: document 01's number, 0 for none, and the identity, 0 where the note was refused.
 #[repr(C)]
-#[derive(Drop)]
+#[derive(Clone, Copy)]
 pub struct LentAnswer {
     pub identity: u64,
     pub code: u8,
 }
 
 // What a lent note comes to: the answer, and the log that the host then holds.
-#[derive(Drop)]
+#[derive(Clone, Copy)]
 pub struct LentNote {
     pub answer: LentAnswer,
     pub log: ChangedAttrs,

@@ -2,13 +2,15 @@
 //
 // Document 01, "Trace lines", says the words, their fields and the fields' widths. Every slice is taken; a line of any
 // other shape is `Bad`. What a line does is not said here, nor where it begins and ends.
+#![tactic(auto)]
+
 ghost use Rattle.std.specs.Prelude.{◌≡◌, take};
 ghost use Rattle.lines.specs.Lines.{begins, kind_of, widths_of, filled, made, line_of};
 ghost use Rattle.fields.specs.Rows.{Fit};
 
 use fields::{Numbers, PLACES, read_fields};
 
-#[derive(Drop)]
+#[derive(Clone, Copy)]
 pub enum Line {
     New(u8),
     Add {
@@ -49,7 +51,7 @@ pub enum Line {
 }
 
 // The word that a line begins with.
-#[derive(Drop)]
+#[derive(Clone, Copy)]
 enum Kind {
     New,
     Add,

@@ -1,1 +1,2 @@
 // Lists of any element type, as the floors above speak of them: definitions in specs/, laws in proofs/. Nothing runs here.
+#![tactic(auto)]

@@ -1,5 +1,7 @@
 // Document 01's marked examples P1 to P12 as the compiled code answers them, a line each. That the definitions give these values is proved in
 // crate rules; here the code itself is run, since the proofs do not cover the compiler's back end.
+#![tactic(auto)]
+
 ghost use Rattle.std.specs.Prelude.{◌<◌};
 
 use changes::ChangedAttrs;
@@ -34,7 +36,7 @@ fn main() {
 }
 
 // Which field tells the sixteen notes of an example apart.
-#[derive(Drop)]
+#[derive(Clone, Copy)]
 enum Row {
     Attributes,
     Clusters,

@@ -1,5 +1,7 @@
 // The entries that a log holds, in an array, and what a note does to them: document 01, "Change log". A length beyond the array counts all
 // of it, so that every call is safe. Which identity a note takes, and which log is refused, is crate changes' matter.
+#![tactic(auto)]
+
 ghost use Rattle.std.specs.Prelude.{◌≡◌, [], ◌∷◌, ◌++◌, ◌≤◌, ◌<◌, max, set, get_or};
 ghost use Rattle.lists.specs.Search.{count, first};
 ghost use Rattle.lists.specs.Removal.{sweep};
@@ -11,7 +13,7 @@ use entries::{ChangedAttr, Coarser, Level, Rule};
 
 // The entries are the first `len` of sixteen places.
 #[repr(C)]
-#[derive(Drop)]
+#[derive(Clone, Copy)]
 pub struct Held {
     pub entries: [ChangedAttr; 16],
     pub len: usize,
@@ -94,7 +96,7 @@ fn promote_and_insert(held: Held, new: ChangedAttr) -> Held
 }
 
 // A coarser entry, and how many entries it covers.
-#[derive(Drop)]
+#[derive(Clone, Copy)]
 pub struct Group {
     pub by: ChangedAttr,
     pub size: usize,

@@ -2,6 +2,8 @@
 //
 // Document 01, "Trace lines": line number, code and value, ended by CRLF. Every buffer and every place is taken; where
 // too few bytes are free nothing is written, and the place that was given comes back.
+#![tactic(auto)]
+
 ghost use Rattle.std.specs.Prelude.{◌≡◌, [], ◌∷◌, ◌++◌, ◌+◌, ◌≤◌, leb, length};
 ghost use Rattle.printing.specs.Answers.{digits_of, answer_of, put_of, field_room, answer_room};
 ghost use Rattle.printing.specs.Inner.{Put};

@@ -1,9 +1,11 @@
 // The refusals of document 01, "Refusal numbers": why a call was turned away. Every floor above refuses with one of these, so that each
 // number is written once. Which call refuses what, and in which order, is said where the call is.
+#![tactic(auto)]
+
 ghost use Rattle.std.specs.Prelude.{◌≡◌};
 ghost use Rattle.refusal.specs.Numbers.{number_of};
 
-#[derive(Drop)]
+#[derive(Clone, Copy)]
 pub enum Refusal {
     // Counted places reach the capacity.
     Full,

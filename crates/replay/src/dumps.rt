@@ -11,7 +11,7 @@ use subscription::Subscription;
 const NO_ID: u64 = 0x1_0000_0000;
 
 // A priming found so far.
-#[derive(Drop)]
+#[derive(Clone, Copy)]
 struct Near {
     place: usize,
     id: u64,

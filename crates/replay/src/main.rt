@@ -2,6 +2,8 @@
 //
 // The lines are those of ../shared/REPLAY.md, a language of tests in which every public call can be made and every state seen. What a call
 // does is proved in the crates below; this program is proved to be safe and to end, and what it writes is compared with the Rust.
+#![tactic(auto)]
+
 mod calls;
 mod dumps;
 mod logs;
@@ -24,7 +26,7 @@ const CAPACITY: u8 = 80;
 
 // What goes on from line to line: the table, the line that is being read, how many bytes of the output buffer are filled, and whether
 // there is more to read.
-#[derive(Drop)]
+#[derive(Clone, Copy)]
 struct State {
     table: Table,
     reading: Reading,

@@ -9,7 +9,7 @@ use refusal::Refusal;
 pub(crate) const VALUES: usize = 257;
 
 // The number, and the first `count` values.
-#[derive(Drop)]
+#[derive(Clone, Copy)]
 pub(crate) struct Reply {
     pub(crate) values: [u64; VALUES],
     pub(crate) count: usize,
@@ -17,7 +17,7 @@ pub(crate) struct Reply {
 }
 
 // A reply, and the table after it.
-#[derive(Drop)]
+#[derive(Clone, Copy)]
 pub(crate) struct Answered {
     pub(crate) reply: Reply,
     pub(crate) table: Table,

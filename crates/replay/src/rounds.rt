@@ -24,7 +24,7 @@ const SLOTS: usize = 255;
 const UNWRITTEN: u32 = 900_000_000;
 
 // How many outcomes were read, if `all` that follows is outcomes.
-#[derive(Drop)]
+#[derive(Clone, Copy)]
 struct Outcomes {
     count: usize,
     all: bool,

@@ -1,5 +1,7 @@
 // A round: document 01, "Round". Reports and completions of one table at one instant, outcomes in turn from a lent slice, ids written into
 // another. Nothing is decided here of whom a report goes to or what an outcome leaves: a round is the table's calls, one after another.
+#![tactic(auto)]
+
 ghost use Rattle.std.specs.Prelude.{◌≡◌, length};
 ghost use Rattle.lists.specs.Search.{some};
 ghost use Rattle.rules.specs.Machine.{bad_outcome};
@@ -10,26 +12,26 @@ use refusal::Refusal;
 use subscription::{ABANDONED, Settings};
 
 // What a round is told: how many were handed out, and whether nothing stored is reportable then.
-#[derive(Drop)]
+#[derive(Clone, Copy)]
 pub struct Ending {
     pub handouts: usize,
     pub silent: bool,
 }
 
-#[derive(Drop)]
+#[derive(Clone, Copy)]
 pub enum Rounding {
     Made(Ending),
     Refused(Refusal),
 }
 
-#[derive(Drop)]
+#[derive(Clone, Copy)]
 pub struct Rounded {
     pub answer: Rounding,
     pub table: Table,
 }
 
 // Whether a turn handed somebody out, whom, and the table once the report has ended.
-#[derive(Drop)]
+#[derive(Clone, Copy)]
 pub struct Turn {
     pub made: bool,
     pub id: u32,
@@ -37,7 +39,7 @@ pub struct Turn {
 }
 
 // How many were handed out, and the table then.
-#[derive(Drop)]
+#[derive(Clone, Copy)]
 pub struct Served {
     pub handouts: usize,
     pub table: Table,

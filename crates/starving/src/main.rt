@@ -1,6 +1,8 @@
 // "With three stored at minimum 0 and a note after each completion, the Rust hands out A, C, A, C and never B. Keep that.": a line for each
 // hand-out, its instant and whom it goes to, as the compiled code does it. That they stand after four as they stood before, so that it goes
 // on, is proved in crate rules.
+#![tactic(auto)]
+
 use instants::Instant;
 use libc::STDOUT_FILENO;
 use places::{HandOut, Table};

@@ -1,6 +1,8 @@
 // One subscription: document 01, module 3. When it may speak, when it must, what it has been told, and what becomes of it when a report ends.
 // Everything is decided on one struct by value, and nothing is refused. Of the change log it learns only whether some entry is above its
 // seen watermark.
+#![tactic(auto)]
+
 ghost use Rattle.std.specs.Prelude.{◌≡◌};
 ghost use Rattle.subscription.specs.When.{gate_of, allowed_of, due_of, is_due, pending, along, reportable, next_of, is_over};
 ghost use Rattle.subscription.specs.Life.{priming, resumed, opened, gives_up, keeps, next_fails, stored_with, closed, failed};
@@ -8,7 +10,7 @@ ghost use Rattle.subscription.specs.Life.{priming, resumed, opened, gives_up, ke
 use instants::Instant;
 use time::KeepAlive;
 
-#[derive(Drop)]
+#[derive(Clone, Copy)]
 pub struct Subscription {
     pub peer: u64,
     // When the last report reached the subscriber; the last instant says never.
@@ -35,7 +37,7 @@ pub struct Subscription {
 }
 
 // What a new subscription brings.
-#[derive(Drop)]
+#[derive(Clone, Copy)]
 pub struct Request {
     pub peer: u64,
     pub shortest: u16,
@@ -45,7 +47,7 @@ pub struct Request {
 }
 
 // What a report is asked for with: the instant, the number of the latest event, the keep-alive kind and whether all go along.
-#[derive(Drop)]
+#[derive(Clone, Copy)]
 pub struct Settings {
     pub now: Instant,
     pub events: u64,

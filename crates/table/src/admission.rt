@@ -13,7 +13,7 @@ use refusal::Refusal;
 use subscription::Request;
 
 // Whether a call is refused, and why.
-#[derive(Drop)]
+#[derive(Clone, Copy)]
 pub(crate) enum Verdict {
     Clear,
     Refuse(Refusal),

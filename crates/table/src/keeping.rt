@@ -9,7 +9,7 @@ use super::PLACES;
 use places::Table;
 
 // What one pass over the live ones finds.
-#[derive(Drop)]
+#[derive(Clone, Copy)]
 pub(crate) struct Pass {
     pub(crate) ids: [u32; 80],
     pub(crate) orphan: bool,

@@ -3,6 +3,8 @@
 // what it does to the table is crate places' matter.
 //
 // A function that indexes the table hands it to nobody, and one that hands it on indexes nothing: so it is copied once for each.
+#![tactic(auto)]
+
 mod admission;
 mod keeping;
 mod moves;

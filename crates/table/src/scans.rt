@@ -13,7 +13,7 @@ use subscription::{Settings, Subscription};
 use time::KeepAlive;
 
 // Which subscriptions a scan is after.
-#[derive(Drop)]
+#[derive(Clone, Copy)]
 pub(crate) enum Test {
     Id(u32),
     Report,
@@ -50,7 +50,7 @@ impl Test {
 }
 
 // What a scan takes the least of.
-#[derive(Drop)]
+#[derive(Clone, Copy)]
 pub(crate) enum Measure {
     // The next instant; the number is the log's greatest identity.
     Next(Settings, u64),

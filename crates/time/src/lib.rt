@@ -1,5 +1,7 @@
 // Intervals and the instants that they lead to: document 01, "Time". Everything here takes every argument and nothing is refused. A sum past
 // the last instant is answered in the open: gate and due at once, retry at the last instant, expiry never.
+#![tactic(auto)]
+
 ghost use Rattle.std.specs.Prelude.{◌≡◌, ◌-◌, min, max};
 ghost use Rattle.time.specs.Intervals.{keep_alive_of, backoff_secs, due_after_secs, icd_max_secs, granted_max_secs};
 ghost use Rattle.time.specs.Moments.{gate_at, due_at, since_report, retry_at, expired};
@@ -7,7 +9,7 @@ ghost use Rattle.time.specs.Moments.{gate_at, due_at, since_report, retry_at, ex
 use instants::{Instant, Later};
 
 // When a subscription with nothing to report reports anyway, to keep itself alive.
-#[derive(Drop)]
+#[derive(Clone, Copy)]
 pub enum KeepAlive {
     // Halfway through its maximum interval.
     Default,

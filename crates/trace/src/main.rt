@@ -3,19 +3,21 @@
 // It reads and writes large chunks and keeps no more of a line than 96 bytes. It ends at the input's end, behind line 1,000,000,
 // or at the first read or write that fails; then no more is written. What is written of the bytes is promised by crate tracing;
 // here is only who reads and who writes.
+#![tactic(auto)]
+
 use cutting::{MOST_BYTES, MOST_LINES};
 use libc::{STDIN_FILENO, STDOUT_FILENO};
 use tracing::Session;
 
 // Whether there is more to read.
-#[derive(Drop)]
+#[derive(Clone, Copy)]
 enum Next {
     More,
     End,
     Failed,
 }
 
-#[derive(Drop)]
+#[derive(Clone, Copy)]
 struct Turned {
     session: Session,
     next: Next,

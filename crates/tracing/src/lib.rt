@@ -4,6 +4,8 @@
 // buffer that the caller lends, of 96 bytes by document 01. The table is touched once for each line. Every session, chunk and
 // buffer is taken; a chunk is taken up to the byte at which the output has no room for another answer. Nothing is read or
 // written here but what is lent.
+#![tactic(auto)]
+
 ghost use Rattle.std.specs.Prelude.{◌≡◌};
 ghost use Rattle.tracing.specs.Runs.{start_of, line_found, ran_to, worked, run_of, finish_of};
 
@@ -13,14 +15,14 @@ use lines::Line;
 use places::Table;
 use printing::ANSWER_ROOM;
 
-#[derive(Drop)]
+#[derive(Clone, Copy)]
 pub struct Session {
     pub table: Table,
     pub reading: Reading,
 }
 
 // The session behind the bytes that were taken, how many they were, and how many bytes of answers were written.
-#[derive(Drop)]
+#[derive(Clone, Copy)]
 pub struct Ran {
     pub session: Session,
     pub used: usize,

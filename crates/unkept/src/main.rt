@@ -1,6 +1,8 @@
 // Refusal 7 as the compiled code gives it. Every call that takes a table is handed states with one clause of "Well kept" broken, then
 // well-kept ones, with and without rubbish where nothing is held. A line says the state, the call, its code, its answer where it acts, and,
 // where a table comes back, whether it is the one given. What calls answer is proved in the crates below; here the code itself is run.
+#![tactic(auto)]
+
 ghost use Rattle.std.specs.Prelude.{◌≡◌, true, ◌<◌};
 
 use answers::{Change, Told, flag};

@@ -1,0 +1,35 @@
+-- `each_differs` meets its contract. The invariant: all differ exactly where those from i on do.
+-- Assumes nothing.
+use mathlib.Core.Path.{◌≡◌, sym, ◌∙◌}
+use Prim.Native.Nat.{◌-◌, ◌≤◌}
+use native.Mathlib.Omega.{arith}
+use borrow.Author.Rules.{rules}
+use lib.Seq.{slice, take-length}
+use lib.ListN.{length}
+use Rattle.lists.specs.Search.{distinct}
+use Rattle.distinct.specs.Differ.{differ}
+use Rattle.distinct.proofs.Marks.{differ-here, differ-done}
+use Rattle.distinct.proofs.each_differs.Goals as goal
+
+pub loop-i-init : goal.loop-i-init
+loop-i-init c = (rw (take-length c.args.ids.now), search rules)
+
+pub returns-then-stands_from : goal.returns-then-stands_from
+unfolding distinct
+returns-then-stands_from c =
+    let a = c.args.ids.now in
+    let k = c.loop-i in
+    sym (k.invariant.0 ∙ differ-here a (length a) (omega arith) k.i (omega arith) ∙ rw (sym c.stands_from.ensures ∙ c.if-stands_from.true, distinct))
+
+pub loop-i-preserved : goal.loop-i-preserved
+unfolding distinct
+loop-i-preserved c =
+    let a = c.args.ids.now in
+    let k = c.loop-i in
+    (k.invariant.0 ∙ differ-here a (length a) (omega arith) k.i (omega arith) ∙ rw (sym c.stands_from.ensures ∙ c.if-stands_from.false, distinct), search rules)
+
+pub returns : goal.returns
+returns c =
+    let a = c.args.ids.now in
+    let k = c.loop-i in
+    sym (k.invariant.0 ∙ differ-done a (length a) (omega arith) k.i (omega arith) (omega arith))

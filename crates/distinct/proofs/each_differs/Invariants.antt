@@ -1,0 +1,18 @@
+-- `each_differs` meets its contract. The invariant: all differ exactly where those from i on do.
+-- Assumes nothing.
+use mathlib.Core.Path.{◌≡◌, sym, ◌∙◌}
+use Prim.Native.Nat.{◌-◌, ◌≤◌}
+use native.Mathlib.Omega.{arith}
+use borrow.Author.Rules.{rules}
+use lib.Seq.{slice, take-length}
+use lib.ListN.{length}
+use Rattle.lists.specs.Search.{distinct}
+use Rattle.distinct.specs.Differ.{differ}
+use Rattle.distinct.proofs.Marks.{differ-here, differ-done}
+use Rattle.distinct.proofs.each_differs.Given as goal
+
+abbrev pub invariant-loop-i : goal.invariant-loop-i
+invariant-loop-i l = (differ l.ids ≡ differ (slice l.i (length l.ids) l.ids)) × (l.i ≤ length l.ids)
+
+abbrev pub decreases-loop-i : goal.decreases-loop-i
+decreases-loop-i l = length l.ids - l.i
