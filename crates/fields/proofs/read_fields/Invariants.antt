@@ -1,0 +1,24 @@
+-- `read_fields` meets its contract. The widths that are left, read from the part that is left, give the numbers of the whole: each turn is one
+-- field of `numbers_from`, which hands on the part behind its comma.
+-- Assumes nothing.
+use mathlib.Core.List.{List, ◌∷◌}
+use mathlib.Core.Path.{◌≡◌, sym, ap, ◌∙◌}
+use Prim.Native.Nat.{ℕ, ◌+◌, ◌-◌, ◌≤◌}
+use native.Mathlib.Nat.{le_of_lt}
+use native.Mathlib.Omega.{arith}
+use lib.Seq.{drop-drop}
+use lib.ListN.{length, length-drop, length-set, drop, get_or, drop_of_length-le}
+use borrow.Author.Tests.{le-leb, lt-leb}
+use borrow.Author.Rules.{rules}
+use Rattle.fields.specs.Rows.{places, numbers_from, numbers_of}
+use Rattle.fields.specs.Fields.{field_of}
+use Rattle.fields.proofs.Rows.{numbers-nothing, part-begins, none_left, some_left}
+use Rattle.lists.proofs.Parts.{drop-next, rest}
+use Rattle.fields.proofs.read_fields.Given as goal
+
+abbrev pub invariant-loop-j : goal.invariant-loop-j
+invariant-loop-j l =
+    (numbers_of l.widths (drop l.from l.s) ≡ numbers_from (drop l.j l.widths) l.v l.j (drop l.at l.s)) × ((l.j ≤ length l.widths) × (l.at ≤ length l.s) × (length l.v ≡ places))
+
+abbrev pub decreases-loop-j : goal.decreases-loop-j
+decreases-loop-j l = length l.widths - l.j
