@@ -1,0 +1,49 @@
+-- `newest_of` meets its contract. The invariant: the greatest identity is that so far or one from i on.
+-- Assumes nothing.
+use mathlib.Core.Path.{◌≡◌, sym, ◌∙◌}
+use Prim.Native.Nat.{◌-◌, ◌≤◌, max}
+use native.Mathlib.Omega.{arith}
+use borrow.Author.Rules.{rules}
+use lib.Seq.{slice}
+use lib.ListN.{length}
+use Rattle.notes.specs.Notes.{newest}
+use Rattle.notes.specs.Places.{listed}
+use Rattle.entries.specs.Paths.{holds}
+use Rattle.notes.proofs.Steps.{newest-hit, newest-miss, newest-done}
+use Rattle.lists.proofs.Arrays.{full}
+use Rattle.notes.proofs.newest_of.Goals as goal
+
+pub loop-i-init : goal.loop-i-init
+loop-i-init c =
+    let long = c.well_formed.0.1.1.0.1.0.1 in
+    (omega arith, search rules)
+
+pub loop-i-preserved-then-meets : goal.loop-i-preserved-then-meets
+loop-i-preserved-then-meets c =
+    let a = c.args in
+    let at = c.loop-i in (
+      omega (
+        arith,
+        newest-hit at.i a.held.len a.held.entries (omega arith) (holds a.rule) (omega arith)
+            (sym c.meets.ensures ∙ c.if-meets.true),
+      ),
+      search rules,
+    )
+
+pub loop-i-preserved : goal.loop-i-preserved
+loop-i-preserved c =
+    let a = c.args in
+    let at = c.loop-i in (
+      omega (
+        arith,
+        newest-miss at.i a.held.len a.held.entries (omega arith) (holds a.rule) (omega arith)
+            (sym c.meets.ensures ∙ c.if-meets.false),
+      ),
+      search rules,
+    )
+
+pub returns : goal.returns
+returns c =
+    let a = c.args in
+    let at = c.loop-i in
+    omega (arith, newest-done at.i a.held.len a.held.entries (omega arith) (holds a.rule) (omega arith) (omega arith))

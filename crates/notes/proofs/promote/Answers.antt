@@ -1,0 +1,22 @@
+-- `promote` meets its contract. It has room for the coarser entry, since at least two entries went.
+-- Assumes nothing.
+use native.Mathlib.Omega.{arith}
+use borrow.Author.Rules.{rules}
+use Rattle.notes.specs.Places.{listed}
+use Rattle.notes.specs.Notes.{folded}
+use Rattle.notes.proofs.Groups.{swept-room}
+use Rattle.notes.proofs.Steps.{holds_as, entries-length}
+use Rattle.lists.proofs.Arrays.{full}
+use Rattle.notes.proofs.promote.Goals as goal
+
+pub push-requires : goal.push-requires
+push-requires c =
+    let a = c.args in
+    let held = a.held in
+    let is = entries-length held (c.well_formed.0.1.1.0.1.0.1) (omega arith) in
+    omega (arith, swept-room (listed held) a.by (omega arith) c.requires.1, c.swept-rest.ensures.counts)
+
+pub returns : goal.returns
+unfolding folded
+returns c =
+    holds_as c.push.ensures (rw (c.swept-rest.ensures.lives, c.newest_of-identity.ensures))

@@ -1,0 +1,9 @@
+-- `is_expired` meets its contract: it is `time`'s answer for the fields.
+-- Assumes nothing.
+use borrow.Author.Rules.{rules}
+use Rattle.subscription.specs.When.{is_over}
+use Rattle.subscription.proofs.Subscription.is_expired.Goals as goal
+
+pub returns : goal.returns
+unfolding is_over
+returns c = c.is_expired.ensures
