@@ -8,7 +8,7 @@ use Rattle.lines.specs.Lines.{line_of}
 use Rattle.lines.proofs.read_held.Goals as goal
 
 pub slice_bounds-read_line-end : goal.slice_bounds-read_line-end
-slice_bounds-read_line-end c = sym (length-take-le _ _ ?BAD(c.before.if1.true))
+slice_bounds-read_line-end c = search rules
 
 pub returns : goal.returns
 returns c = c.read_line-2.ensures ∙ ap line_of (sym (take_all _ _ (le_of_lt c.if-n-held.false)))

@@ -22,15 +22,15 @@ room c = leb-true _ _ (sym c.has_room.ensures ∙ c.if-has_room.true)
 put : (c : After-put_field-c) →
     let a = c.args in
     Put a.out.now a.at (((digits_of a.number ++ (comma ∷ [])) ++ (digits_of a.code ++ (comma ∷ []))) ++ (digits_of a.value ++ (CR ∷ [])))
-    c.put_field-c.result c.put_field-c.new.0
+    c.put_field-c.result c.put_field-c.new.out
 put c =
-    three-put _ _ _ _ _ _ _ _ (room ?PLACE(Then-has_room)) c.put_field-a.ensures c.put_field-b.ensures c.put_field-c.ensures
+    three-put _ _ _ _ _ _ _ _ (leb-true _ _ (sym c.has_room.ensures ∙ c.if-has_room.true)) c.put_field-a.ensures c.put_field-b.ensures c.put_field-c.ensures
 
-free : (c : After-put_field-c) → c.put_field-c.result < length c.put_field-c.new.0
+free : (c : After-put_field-c) → c.put_field-c.result < length c.put_field-c.new.out
 free c =
     let a = c.args in
     omega
-    (arith, (put c).ends, put-length (put c), room ?PLACE(Then-has_room), three-length a.out.now a.at a.number a.code a.value comma comma CR (room ?PLACE(Then-has_room)))
+    (arith, (put c).ends, put-length (put c), leb-true _ _ (sym c.has_room.ensures ∙ c.if-has_room.true), three-length a.out.now a.at a.number a.code a.value comma comma CR (leb-true _ _ (sym c.has_room.ensures ∙ c.if-has_room.true)))
 
 pub bounds-out-c : goal.bounds-out-c
 bounds-out-c c = free (goal.at.bounds-out-c c).After-put_field-c

@@ -15,16 +15,16 @@ room : (c : Then-has_room) → c.args.at + field_room ≤ length c.args.out.now
 room c = leb-true _ _ (sym c.has_room.ensures ∙ c.if-has_room.true)
 
 pub put_digits-k-requires : goal.put_digits-k-requires
-put_digits-k-requires c = omega (arith, room (goal.at.put_digits-k-requires c).Then-has_room twenty c.args.n)
+put_digits-k-requires c = omega (arith, room (goal.at.put_digits-k-requires c).Then-has_room, twenty c.args.n)
 
 pub bounds-out-k : goal.bounds-out-k
 bounds-out-k c =
     omega
-    (arith, room (goal.at.bounds-out-k c).Then-has_room twenty c.args.n, c.put_digits-k.ensures.ends, c.put_digits-k.auto.0)
+    (arith, room (goal.at.bounds-out-k c).Then-has_room, twenty c.args.n, c.put_digits-k.ensures.ends, c.put_digits-k.auto.out)
 
 pub overflow_add-result : goal.overflow_add-result
 overflow_add-result c =
-    omega (arith, room (goal.at.overflow_add-result c).Then-has_room twenty c.args.n, c.put_digits-k.ensures.ends)
+    omega (arith, room (goal.at.overflow_add-result c).Then-has_room, twenty c.args.n, c.put_digits-k.ensures.ends)
 
 pub returns-then-has_room : goal.returns-then-has_room
 returns-then-has_room c =
