@@ -1,0 +1,62 @@
+-- `complete` meets its contract: the tests are the objections, in their order, and the scan finds the open one.
+-- Assumes nothing.
+use Rattle.std.proofs.Common.{◌≡◌, [], length, sym, ap, ◌∙◌, arith, rules, le-ltb, lt-ltb}
+use borrow.Author.Tests.{not-true, not-false}
+use Rattle.refusal.specs.declared.Refusal.TheVariants.{BadArgument, NotOpen}
+use Rattle.places.specs.Calls.{open_at, complete_in}
+use Rattle.places.specs.Views.{view}
+use Rattle.rules.specs.Machine.{first_of}
+use Rattle.rules.specs.States.{has_id}
+use Rattle.rules.specs.Calls as call
+use Rattle.places.proofs.Refusing.{kept-counts, past-kept, unkept}
+use Rattle.places.proofs.Finding.{none_open, one-open}
+use Rattle.rules.proofs.Clauses.{complete-objects, first_holds, first-passed, first-none}
+use Rattle.lists.proofs.Arrays.{full}
+use Rattle.table.proofs.complete.Goals as goal
+use Rattle.table.proofs.complete.Goals.{Start}
+
+long : (c : Start) → length c.args.table.places ≡ 80
+long c = c.well_formed.0.1.1.0.1.0.1
+
+pub returns-then-not-is_kept : goal.returns-then-not-is_kept
+unfolding complete_in
+returns-then-not-is_kept c =
+    let a = c.args in
+    rw (unkept a.table (sym c.is_kept.ensures ∙ c.if-not-is_kept.true) (call.complete a.id a.outcome), complete_in) c.not_completed.ensures
+
+pub returns-then-outcome-gt-ABANDONED : goal.returns-then-outcome-gt-ABANDONED
+unfolding complete_in
+returns-then-outcome-gt-ABANDONED c =
+    let a = c.args in
+    let k = sym c.is_kept.ensures ∙ c.if-not-is_kept.false in
+    rw (past-kept a.table k (call.complete a.id a.outcome) ∙ ap first_of (complete-objects (view a.table) a.id a.outcome) ∙ first_holds BadArgument _ (lt-ltb _ _ c.if-outcome-gt-ABANDONED.true), complete_in) c.not_completed-then-outcome-gt-ABANDONED.ensures
+
+pub find_open-at-requires : goal.find_open-at-requires
+find_open-at-requires c =
+    let b = kept-counts c.args.table (sym c.is_kept.ensures ∙ c.if-not-is_kept.false) in
+    omega arith
+
+pub returns-then-at-ge80 : goal.returns-then-at-ge80
+unfolding complete_in
+returns-then-at-ge80 c =
+    let a = c.args in
+    let t = a.table in
+    let k = sym c.is_kept.ensures ∙ c.if-not-is_kept.false in
+    let b = kept-counts t k in
+    let none = none_open t (long (goal.at.returns-then-at-ge80 c).Start) (omega arith) (has_id a.id) c.find_open-at.ensures c.if-at-ge80.true in
+    rw (past-kept t k (call.complete a.id a.outcome) ∙ ap first_of (complete-objects (view t) a.id a.outcome) ∙ first-passed BadArgument _ (le-ltb _ _ c.if-outcome-gt-ABANDONED.false) ∙ first_holds NotOpen [] none, complete_in) c.not_completed-then-at-ge80.ensures
+
+pub ended-requires : goal.ended-requires
+ended-requires c =
+    let b = kept-counts c.args.table (sym c.is_kept.ensures ∙ c.if-not-is_kept.false) in
+    (b, (omega (arith, c.find_open-at.ensures), omega arith))
+
+pub returns : goal.returns
+unfolding complete_in open_at
+returns c =
+    let a = c.args in
+    let t = a.table in
+    let k = sym c.is_kept.ensures ∙ c.if-not-is_kept.false in
+    let b = kept-counts t k in
+    let there = one-open t (long (goal.at.returns c).Start) (omega arith) (has_id a.id) c.find_open-at.ensures c.if-at-ge80.false in
+    rw (past-kept t k (call.complete a.id a.outcome) ∙ ap first_of (complete-objects (view t) a.id a.outcome) ∙ first-passed BadArgument _ (le-ltb _ _ c.if-outcome-gt-ABANDONED.false) ∙ first-passed NotOpen [] there ∙ first-none, ← c.find_open-at.ensures, complete_in) c.ended.ensures

@@ -1,0 +1,28 @@
+-- `has_subscription_for` meets its contract: refused with 7 or served by a scan.
+-- Assumes nothing.
+use Rattle.std.proofs.Common.{sym, ◌∙◌, arith, rules}
+use borrow.Author.Tests.{not-true, not-false}
+use Rattle.places.specs.Calls.{has_at}
+use Rattle.places.specs.Views.{view}
+use Rattle.rules.specs.Calls as call
+use Rattle.places.proofs.Refusing.{kept-counts, no-refusal, unkept}
+use Rattle.rules.proofs.Clauses.{has-objects}
+use Rattle.table.proofs.has_subscription_for.Goals as goal
+
+pub returns-then-not-is_kept : goal.returns-then-not-is_kept
+unfolding has_at
+returns-then-not-is_kept c =
+    let a = c.args in
+    rw (unkept a.table (sym c.is_kept.ensures ∙ c.if-not-is_kept.true) (call.has_subscription a.fabric a.peer), has_at)
+
+pub find_stored-requires : goal.find_stored-requires
+find_stored-requires c =
+    let b = kept-counts c.args.table (sym c.is_kept.ensures ∙ c.if-not-is_kept.false) in
+    omega arith
+
+pub returns : goal.returns
+unfolding has_at
+returns c =
+    let a = c.args in
+    let k = sym c.is_kept.ensures ∙ c.if-not-is_kept.false in
+    rw (no-refusal a.table k (call.has_subscription a.fabric a.peer) (has-objects (view a.table) a.fabric a.peer), ← c.find_stored.ensures, has_at)

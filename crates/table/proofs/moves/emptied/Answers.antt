@@ -1,0 +1,23 @@
+-- `emptied` meets its contract. The invariant: the places before i are blank, and the rest is as it was.
+-- Assumes nothing.
+use Rattle.std.proofs.Common.{◌≡◌, ◌-◌, ◌≤◌, ◌++◌, length, drop, replicate, refl, arith, rules}
+use Rattle.subscription.specs.Life.{blank}
+use Rattle.table.proofs.Sweeping.{SameBut, same-on, blank-more, empty-end}
+use Rattle.lists.proofs.Arrays.{full}
+use Rattle.table.proofs.moves.emptied.Goals as goal
+
+pub loop-i-init : goal.loop-i-init
+loop-i-init c =
+    let t = c.args.table in
+    let long = c.well_formed.0.1.1.0.1.0.1 in
+    (refl, (refl, search rules))
+
+pub loop-i-preserved : goal.loop-i-preserved
+loop-i-preserved c =
+    let k = c.loop-i in
+    (rw k.invariant.0 (blank-more c.args.table.places k.i (omega arith)), (same-on c.args.table k.table _ k.invariant.1.0, search rules))
+
+pub returns : goal.returns
+returns c =
+    let k = c.loop-i in
+    empty-end c.args.table k.table k.i k.invariant.1.0 k.invariant.0 (omega arith)

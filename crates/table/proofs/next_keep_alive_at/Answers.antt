@@ -1,0 +1,34 @@
+-- `next_keep_alive_at` meets its contract: refused with 7 or served by a scan for the least.
+-- Assumes nothing.
+use Rattle.std.proofs.Common.{sym, ◌∙◌, arith, rules, eq-eqb, ne_eqb}
+use borrow.Author.Tests.{not-true, not-false}
+use Rattle.places.specs.Calls.{alive_at}
+use Rattle.places.specs.Views.{view}
+use Rattle.rules.specs.Calls as call
+use Rattle.places.proofs.Refusing.{kept-counts, no-refusal, unkept}
+use Rattle.rules.proofs.Clauses.{alive-objects}
+use Rattle.table.proofs.next_keep_alive_at.Goals as goal
+
+pub returns-then-not-is_kept : goal.returns-then-not-is_kept
+unfolding alive_at
+returns-then-not-is_kept c =
+    rw (unkept c.args.table (sym c.is_kept.ensures ∙ c.if-not-is_kept.true) call.next_keep_alive, alive_at)
+
+pub returns-then-table-eq0 : goal.returns-then-table-eq0
+unfolding alive_at
+returns-then-table-eq0 c =
+    let t = c.args.table in
+    let k = sym c.is_kept.ensures ∙ c.if-not-is_kept.false in
+    rw (no-refusal t k call.next_keep_alive (alive-objects (view t)), eq-eqb _ _ c.if-table-eq0.true, alive_at)
+
+pub least_stored-requires : goal.least_stored-requires
+least_stored-requires c =
+    let b = kept-counts c.args.table (sym c.is_kept.ensures ∙ c.if-not-is_kept.false) in
+    omega arith
+
+pub returns : goal.returns
+unfolding alive_at
+returns c =
+    let t = c.args.table in
+    let k = sym c.is_kept.ensures ∙ c.if-not-is_kept.false in
+    rw (no-refusal t k call.next_keep_alive (alive-objects (view t)), ne_eqb _ _ c.if-table-eq0.false, ← c.least_stored.ensures, alive_at)

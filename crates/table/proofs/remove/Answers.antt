@@ -1,0 +1,56 @@
+-- `remove` meets its contract: the tests are the objections, in their order; scans tell what is removed and cancelled.
+-- Assumes nothing.
+use Rattle.std.proofs.Common.{◌≡◌, ◌||◌, [], length, sym, ap, ◌∙◌, arith, rules}
+use borrow.Author.Tests.{not-true, not-false}
+use Rattle.refusal.specs.declared.Refusal.TheVariants.{BadArgument}
+use Rattle.places.specs.Calls.{remove_in}
+use Rattle.places.specs.Views.{view}
+use Rattle.rules.specs.Machine.{first_of}
+use Rattle.choices.specs.Choices.{chosen}
+use Rattle.rules.specs.Calls as call
+use Rattle.places.proofs.Refusing.{kept-counts, past-kept, unkept}
+use Rattle.places.proofs.Finding.{stored_there}
+use Rattle.rules.proofs.Clauses.{remove-objects, first_holds, first-passed, first-none}
+use Rattle.lists.proofs.Arrays.{full}
+use Rattle.table.proofs.remove.Goals as goal
+use Rattle.table.proofs.remove.Goals.{Start}
+
+long : (c : Start) → length c.args.table.places ≡ 80
+long c = c.well_formed.0.1.1.0.1.0.1
+
+pub returns-then-not-is_kept : goal.returns-then-not-is_kept
+unfolding remove_in
+returns-then-not-is_kept c =
+    let a = c.args in
+    rw (unkept a.table (sym c.is_kept.ensures ∙ c.if-not-is_kept.true) (call.remove a.choice a.reason), remove_in) c.not_woken.ensures
+
+pub returns-then-is_bad_reason : goal.returns-then-is_bad_reason
+unfolding remove_in
+returns-then-is_bad_reason c =
+    let a = c.args in
+    let k = sym c.is_kept.ensures ∙ c.if-not-is_kept.false in
+    rw (past-kept a.table k (call.remove a.choice a.reason) ∙ ap first_of (remove-objects (view a.table) a.choice a.reason) ∙ first_holds BadArgument [] (sym c.is_bad_reason.ensures ∙ c.if-is_bad_reason.true), remove_in) c.not_woken-then-is_bad_reason.ensures
+
+pub cancels-cancels-requires : goal.cancels-cancels-requires
+cancels-cancels-requires c =
+    let b = kept-counts c.args.table (sym c.is_kept.ensures ∙ c.if-not-is_kept.false) in
+    omega arith
+
+pub find_stored-requires : goal.find_stored-requires
+find_stored-requires c =
+    let b = kept-counts c.args.table (sym c.is_kept.ensures ∙ c.if-not-is_kept.false) in
+    omega arith
+
+pub swept-requires : goal.swept-requires
+swept-requires c =
+    let b = kept-counts c.args.table (sym c.is_kept.ensures ∙ c.if-not-is_kept.false) in
+    omega arith
+
+pub returns : goal.returns
+unfolding remove_in
+returns c =
+    let a = c.args in
+    let k = sym c.is_kept.ensures ∙ c.if-not-is_kept.false in
+    let b = kept-counts a.table k in
+    let found = c.either-wakes.ensures ∙ ap (λ b. b || c.cancels-cancels.result) (stored_there a.table (long (goal.at.returns c).Start) (omega arith) (chosen a.choice) c.find_stored.ensures) in
+    rw (past-kept a.table k (call.remove a.choice a.reason) ∙ ap first_of (remove-objects (view a.table) a.choice a.reason) ∙ first-passed BadArgument [] (sym c.is_bad_reason.ensures ∙ c.if-is_bad_reason.false) ∙ first-none, ← c.cancels-cancels.ensures, ← found, ← c.swept.ensures, ← c.reason_after.ensures, ← c.with_cancel.ensures, remove_in)

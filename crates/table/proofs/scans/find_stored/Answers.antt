@@ -1,0 +1,30 @@
+-- `find_stored` meets its contract. The invariant: the first of all stored ones is i places before the first of those from i on.
+-- Assumes nothing.
+use Rattle.std.proofs.Common.{◌≡◌, ◌+◌, ◌-◌, ◌≤◌, length, sym, ◌∙◌, arith, rules}
+use lib.Seq.{slice}
+use Rattle.table.specs.Scans.{passes}
+use Rattle.places.specs.Views.{stored_of}
+use Rattle.subscription.specs.Life.{blank}
+use Rattle.lists.specs.Search.{first}
+use Rattle.lists.proofs.Arrays.{full, first-here, first_next, first_done}
+use Rattle.table.proofs.scans.find_stored.Goals as goal
+
+pub loop-i-init : goal.loop-i-init
+loop-i-init c =
+    let long = c.well_formed.0.1.1.0.1.0.1 in
+    (omega arith, search rules)
+
+pub returns-then-passes : goal.returns-then-passes
+returns-then-passes c =
+    let t = c.args.table in
+    omega (arith, first-here (passes c.args.test) c.loop-i.i t.stored t.places blank (omega arith) (omega arith) (sym c.passes.ensures ∙ c.if-passes.true))
+
+pub loop-i-preserved : goal.loop-i-preserved
+loop-i-preserved c =
+    let t = c.args.table in
+    (omega (arith, first_next (passes c.args.test) c.loop-i.i t.stored t.places blank (omega arith) (omega arith) (sym c.passes.ensures ∙ c.if-passes.false)), search rules)
+
+pub returns : goal.returns
+returns c =
+    let t = c.args.table in
+    omega (arith, first_done (passes c.args.test) c.loop-i.i t.stored t.places blank (omega arith) (omega arith) (omega arith))
