@@ -1,0 +1,9 @@
+-- `refused` meets its contract: the code is the number of the refusal.
+-- Assumes nothing.
+use mathlib.Core.Path.{ap}
+use Prim.Native.Nat.{ℕ}
+use borrow.Author.Rules.{rules}
+use Rattle.answering.proofs.refused.Goals as goal
+
+pub returns : goal.returns
+returns c = ap (λ (n : ℕ). record { code = n; value = 0 }) c.number.ensures

@@ -1,0 +1,51 @@
+-- `round` meets its contract: refused with 7, for its slices or for an open report, or the turns that `serve` makes.
+-- Assumes nothing.
+use mathlib.Core.Path.{◌≡◌, sym, ◌∙◌}
+use borrow.Author.Tests.{not-true, not-false}
+use borrow.Author.Rules.{rules}
+use lib.ListN.{length}
+use Rattle.round.specs.Rounds.{round_of}
+use Rattle.rules.specs.Calls as call
+use Rattle.lists.proofs.Arrays.{full}
+use Rattle.round.proofs.Refusing.{same-lengths, shut-is, refused-slices, refused-shut, not-refused}
+use Rattle.places.proofs.Refusing.{unkept}
+use Rattle.round.proofs.round.Goals as goal
+use Rattle.round.proofs.round.Goals.{Start}
+
+long : (c : Start) → length c.args.table.places ≡ 80
+long c = c.well_formed.0.1.1.0.1.0.1
+
+pub returns-then-not-is_kept : goal.returns-then-not-is_kept
+unfolding round_of
+returns-then-not-is_kept c =
+    let a = c.args in
+    rw (unkept a.table (sym c.is_kept.ensures ∙ c.if-not-is_kept.true) (call.round a.at a.outcomes.now a.ids.now), round_of, c.not_rounded.ensures)
+
+pub returns-then-are_bad : goal.returns-then-are_bad
+unfolding round_of
+returns-then-are_bad c =
+    let a = c.args in
+    let k = sym c.is_kept.ensures ∙ c.if-not-is_kept.false in
+    rw (refused-slices a.table k a.at a.outcomes.now a.ids.now (sym c.are_bad.ensures ∙ c.if-are_bad.true), round_of, c.not_rounded-then-are_bad.ensures)
+
+pub returns-then-is_shut : goal.returns-then-is_shut
+unfolding round_of
+returns-then-is_shut c =
+    let a = c.args in
+    let k = sym c.is_kept.ensures ∙ c.if-not-is_kept.false in
+    let good = sym c.are_bad.ensures ∙ c.if-are_bad.false in
+    let shut = sym (shut-is a.table k (long (goal.at.returns-then-is_shut c).Start) a.at) ∙ sym c.is_shut.ensures ∙ c.if-is_shut.true in
+    rw (refused-shut a.table k a.at a.outcomes.now a.ids.now good shut, round_of, c.not_rounded-then-is_shut.ensures)
+
+pub serve-end-requires : goal.serve-end-requires
+serve-end-requires c =
+    same-lengths _ _ (sym c.are_bad.ensures ∙ c.if-are_bad.false)
+
+pub returns : goal.returns
+unfolding round_of
+returns c =
+    let a = c.args in
+    let k = sym c.is_kept.ensures ∙ c.if-not-is_kept.false in
+    let good = sym c.are_bad.ensures ∙ c.if-are_bad.false in
+    let free = sym (shut-is a.table k (long (goal.at.returns c).Start) a.at) ∙ sym c.is_shut.ensures ∙ c.if-is_shut.false in
+    rw (not-refused a.table k a.at a.outcomes.now a.ids.now good free, round_of, ← c.serve-end.ensures, c.is_silent.ensures)
