@@ -1,0 +1,81 @@
+-- `run` meets its contract. What is left of the chunk is run as the whole is, from where the run stands: each turn is one scan, by the laws of
+-- Scanning.
+-- Assumes nothing.
+use mathlib.Core.Bool.{true}
+use mathlib.Core.Path.{◌≡◌, refl, sym, ap, ◌∙◌}
+use Prim.Native.Nat.{◌+◌, ◌-◌, ◌≤◌}
+use native.Mathlib.Omega.{arith}
+use lib.Dec.{leb}
+use lib.ListN.{length, drop, drop_of_length-le}
+use borrow.Author.Rules.{rules}
+use borrow.Author.Tests.{not-true, not-false}
+use Rattle.printing.specs.Answers.{answer_room}
+use Rattle.tracing.specs.Runs.{run_from}
+use Rattle.tracing.proofs.Scanning.{standing, stopped-at, run-full, run-done, turn-within, turn-moves, turn-none, turn-answered}
+use Rattle.tracing.proofs.run.Goals as goal
+use Rattle.tracing.proofs.run.Goals.{After-scan-k}
+
+-- behind the scan: there was room, and what it used of the chunk is there
+room : (c : After-scan-k) →
+    let k = c.loop-used in leb (k.wrote + answer_room) (length k.out) ≡ true
+room c = sym c.has_room.ensures ∙ c.if-not-has_room.false
+
+within : (c : After-scan-k) →
+    c.loop-used.used + c.scan-k.result.used ≤ length c.args.s.now
+within c = turn-within _ _ _ c.args.s.now _ _ c.scan-k.ensures c.loop-used.invariant.1.0
+
+pub loop-used-init : goal.loop-used-init
+loop-used-init c = (refl, (search rules, refl, refl))
+
+pub shape_of-held-then-not-has_room : goal.shape_of-held-then-not-has_room
+shape_of-held-then-not-has_room c = c.loop-used.invariant.1.1
+
+pub shape_of-out-then-not-has_room : goal.shape_of-out-then-not-has_room
+shape_of-out-then-not-has_room c = c.loop-used.invariant.1.2
+
+pub returns-then-not-has_room : goal.returns-then-not-has_room
+returns-then-not-has_room c =
+    let k = c.loop-used in
+    stopped-at c.stopped.ensures ∙ sym (k.invariant.0 ∙ run-full _ _ (sym c.has_room.ensures ∙ c.if-not-has_room.true))
+
+pub overflow_add-used : goal.overflow_add-used
+overflow_add-used c = omega (arith, within (goal.at.overflow_add-used c).After-scan-k)
+
+pub shape_of-held-then-not-ends : goal.shape_of-held-then-not-ends
+shape_of-held-then-not-ends c =
+    c.scan-k.auto.held ∙ c.loop-used.invariant.1.1
+
+pub shape_of-out-then-not-ends : goal.shape_of-out-then-not-ends
+shape_of-out-then-not-ends c =
+    c.loop-used.invariant.1.2
+
+pub returns-then-not-ends : goal.returns-then-not-ends
+returns-then-not-ends c =
+    let k = c.loop-used in
+    stopped-at c.stopped-then-not-ends.ensures
+    ∙ sym (k.invariant.0 ∙ turn-none _ _ _ _ _ _ _ _ _ c.scan-k.ensures (room (goal.at.returns-then-not-ends c).After-scan-k) k.invariant.1.0 (sym c.ends.ensures ∙ c.if-not-ends.true))
+
+pub loop-used-smaller : goal.loop-used-smaller
+loop-used-smaller c =
+    omega (arith, turn-moves _ _ _ c.args.s.now _ _ c.scan-k.ensures c.loop-used-test.true, within (goal.at.loop-used-smaller c).After-scan-k)
+
+pub loop-used-preserved : goal.loop-used-preserved
+loop-used-preserved c =
+    let k = c.loop-used in (
+      k.invariant.0
+          ∙ turn-answered _ _ _ _ _ _ _ _ _ c.scan-k.ensures (room (goal.at.loop-used-preserved c).After-scan-k) (sym c.ends.ensures ∙ c.if-not-ends.false) _ _ _ _
+          c.line_in.ensures
+          c.answer-a.ensures
+          c.put_answer-wrote.ensures,
+      (within (goal.at.loop-used-preserved c).After-scan-k, c.scan-k.auto.held ∙ k.invariant.1.1, c.put_answer-wrote.auto.out ∙ k.invariant.1.2),
+    )
+
+pub shape_of-held : goal.shape_of-held
+shape_of-held c = c.loop-used.invariant.1.1
+
+pub shape_of-out : goal.shape_of-out
+shape_of-out c = c.loop-used.invariant.1.2
+
+pub returns : goal.returns
+returns c =
+    stopped-at c.stopped-2.ensures ∙ sym (c.loop-used.invariant.0 ∙ ap (run_from _) (drop_of_length-le _ c.loop-used-test.false) ∙ run-done _)
