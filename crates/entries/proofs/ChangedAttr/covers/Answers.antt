@@ -1,7 +1,6 @@
 -- `covers` meets its contract: the three tests are the definition's, joined in its order.
 -- Assumes nothing.
 use mathlib.Core.Path.{sym, ◌∙◌}
-use borrow.Author.Rules.{rules}
 use Rattle.entries.specs.Paths.{covers}
 use Rattle.entries.proofs.ChangedAttr.covers.Goals as goal
 

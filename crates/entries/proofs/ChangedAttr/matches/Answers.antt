@@ -1,7 +1,6 @@
 -- `matches` meets its contract: the three tests are the definition's, joined in its order.
 -- Assumes nothing.
 use mathlib.Core.Path.{sym, ◌∙◌}
-use borrow.Author.Rules.{rules}
 use Rattle.entries.specs.Paths.{matches}
 use Rattle.entries.proofs.ChangedAttr.matches.Goals as goal
 

@@ -1,7 +1,6 @@
 -- `meets` meets its contract: each arm is the test that the rule stands for.
 -- Assumes nothing.
 use borrow.Author.Tests.{lt-ltb, le-ltb}
-use borrow.Author.Rules.{rules}
 use Rattle.entries.specs.Paths.{over, under, up_to, above, since}
 use Rattle.entries.proofs.Rule.meets.Goals as goal
 
