@@ -1,4 +1,4 @@
-//! Links the port's archive, which `rt staticlib lent` writes.
+//! Links the port's archive, which oracle/lent/compare makes of crate lent_c.
 
 fn main() {
     let root = std::env::var("CARGO_MANIFEST_DIR").expect("cargo sets it");

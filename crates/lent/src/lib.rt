@@ -24,13 +24,7 @@ pub struct LentNote {
 }
 
 // The host lends its log, and the note is entered there. A refusal leaves the log as it was.
-#[unsafe(no_mangle)]
-pub extern "C" fn note_lent(
-    log: &mut ChangedAttrs,
-    endpoint: u16,
-    cluster: u32,
-    attr: u32,
-) -> LentAnswer
+pub fn note_lent(log: &mut ChangedAttrs, endpoint: u16, cluster: u32, attr: u32) -> LentAnswer
     ensures { lent result log.new ≡ lent_note log.old endpoint cluster attr }
 {
     let after = numbered_note(*log, endpoint, cluster, attr);

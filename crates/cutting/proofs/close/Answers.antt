@@ -1,7 +1,6 @@
 -- `close` meets its contract: each return is one case of `close_of`.
 -- Assumes nothing.
 use mathlib.Core.Path.{sym, ◌∙◌}
-use borrow.Author.Rules.{rules}
 use Rattle.cutting.proofs.Steps.{close-stopped, close-CR, close-bad, close-none, close-whole}
 use Rattle.cutting.proofs.close.Goals as goal
 

@@ -1,6 +1,5 @@
 -- `ended` meets its contract: the next line begins fresh, and its number fits, since reading has not stopped.
 -- Assumes nothing.
-use borrow.Author.Rules.{rules}
 use Rattle.cutting.proofs.ended.Goals as goal
 
 pub returns : goal.returns

@@ -3,8 +3,8 @@
 -- Assumes nothing.
 use mathlib.Core.List.{◌∷◌}
 use mathlib.Core.Path.{◌≡◌, refl, sym, ap, ◌∙◌}
-use Prim.Native.Nat.{◌+◌, ◌-◌, ◌≤◌}
-use lib.ListN.{length, drop, get_or, drop_of_length-le}
+use Prim.Native.Nat.{◌+◌}
+use lib.ListN.{drop, get_or, drop_of_length-le}
 use borrow.Author.Rules.{rules}
 use Rattle.cutting.specs.Steps.{scan_from}
 use Rattle.cutting.proofs.Steps.{scan-ends, scan-goes}

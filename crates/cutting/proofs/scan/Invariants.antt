@@ -1,14 +1,10 @@
 -- `scan` meets its contract. What is left of the chunk is scanned as the whole is, from the reading so far: each turn is one step of
 -- `scan_from`.
 -- Assumes nothing.
-use mathlib.Core.List.{◌∷◌}
-use mathlib.Core.Path.{◌≡◌, refl, sym, ap, ◌∙◌}
-use Prim.Native.Nat.{◌+◌, ◌-◌, ◌≤◌}
-use lib.ListN.{length, drop, get_or, drop_of_length-le}
-use borrow.Author.Rules.{rules}
+use mathlib.Core.Path.{◌≡◌}
+use Prim.Native.Nat.{◌-◌, ◌≤◌}
+use lib.ListN.{length, drop}
 use Rattle.cutting.specs.Steps.{scan_from}
-use Rattle.cutting.proofs.Steps.{scan-ends, scan-goes}
-use Rattle.lists.proofs.Parts.{drop-next}
 use Rattle.cutting.proofs.scan.Given as goal
 
 abbrev pub invariant-loop-used : goal.invariant-loop-used

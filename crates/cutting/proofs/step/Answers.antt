@@ -1,7 +1,6 @@
 -- `step` meets its contract: each return is one case of `step_of`.
 -- Assumes nothing.
 use mathlib.Core.Path.{sym}
-use borrow.Author.Rules.{rules}
 use Rattle.cutting.proofs.Steps.{step-stopped, step-ended, step-lone-LF, step-lone-CR, step_waits, step-behind, step-held, step-full}
 use Rattle.cutting.proofs.step.Goals as goal
 

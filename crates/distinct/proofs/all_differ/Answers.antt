@@ -2,9 +2,8 @@
 -- Assumes nothing.
 use mathlib.Core.Path.{◌≡◌, refl, sym}
 use native.Mathlib.Omega.{arith}
-use borrow.Author.Rules.{rules}
 use lib.Seq.{take-length}
-use Rattle.distinct.proofs.Marks.{Marked, mark-begin, mark-step}
+use Rattle.distinct.proofs.Marks.{mark-begin, mark-step}
 use Rattle.distinct.proofs.all_differ.Goals as goal
 
 pub loop-i-init : goal.loop-i-init

@@ -1,13 +1,11 @@
 -- `each_differs` meets its contract. The invariant: all differ exactly where those from i on do.
 -- Assumes nothing.
-use mathlib.Core.Path.{◌≡◌, sym, ◌∙◌}
-use Prim.Native.Nat.{◌-◌, ◌≤◌}
+use mathlib.Core.Path.{sym, ◌∙◌}
 use native.Mathlib.Omega.{arith}
 use borrow.Author.Rules.{rules}
-use lib.Seq.{slice, take-length}
+use lib.Seq.{take-length}
 use lib.ListN.{length}
 use Rattle.lists.specs.Search.{distinct}
-use Rattle.distinct.specs.Differ.{differ}
 use Rattle.distinct.proofs.Marks.{differ-here, differ-done}
 use Rattle.distinct.proofs.each_differs.Goals as goal
 

@@ -1,14 +1,10 @@
 -- `each_differs` meets its contract. The invariant: all differ exactly where those from i on do.
 -- Assumes nothing.
-use mathlib.Core.Path.{◌≡◌, sym, ◌∙◌}
+use mathlib.Core.Path.{◌≡◌}
 use Prim.Native.Nat.{◌-◌, ◌≤◌}
-use native.Mathlib.Omega.{arith}
-use borrow.Author.Rules.{rules}
-use lib.Seq.{slice, take-length}
+use lib.Seq.{slice}
 use lib.ListN.{length}
-use Rattle.lists.specs.Search.{distinct}
 use Rattle.distinct.specs.Differ.{differ}
-use Rattle.distinct.proofs.Marks.{differ-here, differ-done}
 use Rattle.distinct.proofs.each_differs.Given as goal
 
 abbrev pub invariant-loop-i : goal.invariant-loop-i

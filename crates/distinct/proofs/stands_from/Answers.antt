@@ -1,14 +1,11 @@
 -- `stands_from` meets its contract. The invariant: the number stands from the start on exactly where it stands from i on.
 -- Assumes nothing.
-use mathlib.Core.Path.{◌≡◌, refl, sym, ◌∙◌}
-use Prim.Native.Nat.{◌-◌, ◌≤◌}
+use mathlib.Core.Path.{refl, sym, ◌∙◌}
 use native.Mathlib.Omega.{arith}
 use borrow.Author.Tests.{eq-eqb, ne_eqb}
 use borrow.Author.Rules.{rules}
-use lib.Seq.{slice}
 use lib.ListN.{length}
 use Rattle.lists.specs.Search.{some}
-use Rattle.distinct.specs.Differ.{holds}
 use Rattle.distinct.proofs.Marks.{holds-here, holds-done}
 use Rattle.distinct.proofs.stands_from.Goals as goal
 

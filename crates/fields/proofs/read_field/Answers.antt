@@ -3,11 +3,10 @@
 -- Assumes nothing.
 use mathlib.Core.List.{[], ◌∷◌}
 use mathlib.Core.Path.{◌≡◌, sym, ap, ◌∙◌}
-use Prim.Native.Nat.{◌+◌, ◌-◌, ◌≤◌}
+use Prim.Native.Nat.{◌+◌}
 use native.Mathlib.Omega.{arith}
-use lib.ListN.{length, drop, get_or, drop_of_length-le}
+use lib.ListN.{drop, get_or, drop_of_length-le}
 use borrow.Author.Tests.{eq-eqb, ne_eqb}
-use borrow.Author.Rules.{rules}
 use Rattle.fields.specs.Fields.{field_of}
 use Rattle.fields.proofs.Fields.{field_from, field_is}
 use Rattle.lists.proofs.Parts.{drop-next}

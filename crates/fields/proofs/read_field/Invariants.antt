@@ -1,16 +1,11 @@
 -- `read_field` meets its contract. What is left of the slice is read as the whole is, from the number v of the i bytes passed: so each turn is
 -- one step of `field_from`, which is `field_of` by the laws of Fields.
 -- Assumes nothing.
-use mathlib.Core.List.{[], ◌∷◌}
-use mathlib.Core.Path.{◌≡◌, sym, ap, ◌∙◌}
-use Prim.Native.Nat.{◌+◌, ◌-◌, ◌≤◌}
-use native.Mathlib.Omega.{arith}
-use lib.ListN.{length, drop, get_or, drop_of_length-le}
-use borrow.Author.Tests.{eq-eqb, ne_eqb}
-use borrow.Author.Rules.{rules}
+use mathlib.Core.Path.{◌≡◌}
+use Prim.Native.Nat.{◌-◌, ◌≤◌}
+use lib.ListN.{length, drop}
 use Rattle.fields.specs.Fields.{field_of}
-use Rattle.fields.proofs.Fields.{field_from, field_is}
-use Rattle.lists.proofs.Parts.{drop-next}
+use Rattle.fields.proofs.Fields.{field_from}
 use Rattle.fields.proofs.read_field.Given as goal
 
 abbrev pub invariant-loop-i : goal.invariant-loop-i

@@ -3,14 +3,14 @@
 -- Assumes nothing.
 use mathlib.Core.List.{List, ◌∷◌}
 use mathlib.Core.Path.{◌≡◌, sym, ap, ◌∙◌}
-use Prim.Native.Nat.{ℕ, ◌+◌, ◌-◌, ◌≤◌}
+use Prim.Native.Nat.{ℕ, ◌+◌}
 use native.Mathlib.Nat.{le_of_lt}
 use native.Mathlib.Omega.{arith}
 use lib.Seq.{drop-drop}
-use lib.ListN.{length, length-drop, length-set, drop, get_or, drop_of_length-le}
+use lib.ListN.{length-drop, length-set, drop, get_or, drop_of_length-le}
 use borrow.Author.Tests.{le-leb, lt-leb}
 use borrow.Author.Rules.{rules}
-use Rattle.fields.specs.Rows.{places, numbers_from, numbers_of}
+use Rattle.fields.specs.Rows.{numbers_from, numbers_of}
 use Rattle.fields.specs.Fields.{field_of}
 use Rattle.fields.proofs.Rows.{numbers-nothing, part-begins, none_left, some_left}
 use Rattle.lists.proofs.Parts.{drop-next, rest}

@@ -1,19 +1,10 @@
 -- `read_fields` meets its contract. The widths that are left, read from the part that is left, give the numbers of the whole: each turn is one
 -- field of `numbers_from`, which hands on the part behind its comma.
 -- Assumes nothing.
-use mathlib.Core.List.{List, ◌∷◌}
-use mathlib.Core.Path.{◌≡◌, sym, ap, ◌∙◌}
-use Prim.Native.Nat.{ℕ, ◌+◌, ◌-◌, ◌≤◌}
-use native.Mathlib.Nat.{le_of_lt}
-use native.Mathlib.Omega.{arith}
-use lib.Seq.{drop-drop}
-use lib.ListN.{length, length-drop, length-set, drop, get_or, drop_of_length-le}
-use borrow.Author.Tests.{le-leb, lt-leb}
-use borrow.Author.Rules.{rules}
+use mathlib.Core.Path.{◌≡◌}
+use Prim.Native.Nat.{◌-◌, ◌≤◌}
+use lib.ListN.{length, drop}
 use Rattle.fields.specs.Rows.{places, numbers_from, numbers_of}
-use Rattle.fields.specs.Fields.{field_of}
-use Rattle.fields.proofs.Rows.{numbers-nothing, part-begins, none_left, some_left}
-use Rattle.lists.proofs.Parts.{drop-next, rest}
 use Rattle.fields.proofs.read_fields.Given as goal
 
 abbrev pub invariant-loop-j : goal.invariant-loop-j

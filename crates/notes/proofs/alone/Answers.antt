@@ -1,11 +1,9 @@
 -- `alone` meets its contract: a store at the front, and one entry.
 -- Assumes nothing.
 use native.Mathlib.Omega.{arith}
-use borrow.Author.Rules.{rules}
 use lib.Seq.{take-suc-set}
 use lib.ListN.{length-set}
 use Rattle.notes.proofs.Steps.{holding}
-use Rattle.lists.proofs.Arrays.{full}
 use Rattle.notes.proofs.alone.Goals as goal
 
 pub returns : goal.returns

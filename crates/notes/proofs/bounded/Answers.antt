@@ -2,7 +2,6 @@
 -- Assumes nothing.
 use mathlib.Core.Path.{refl}
 use native.Mathlib.Omega.{arith}
-use Rattle.lists.proofs.Arrays.{full}
 use Rattle.notes.proofs.Steps.{holding, beyond}
 use Rattle.notes.proofs.bounded.Goals as goal
 

@@ -1,15 +1,10 @@
 -- `find` meets its contract. The invariant: the first of all entries is i places before the first of those from i on.
 -- Assumes nothing.
-use mathlib.Core.Path.{◌≡◌, sym, ◌∙◌}
-use Prim.Native.Nat.{◌+◌, ◌-◌, ◌≤◌}
+use mathlib.Core.Path.{sym, ◌∙◌}
 use native.Mathlib.Omega.{arith}
 use borrow.Author.Rules.{rules}
-use lib.Seq.{slice}
-use lib.ListN.{length}
-use Rattle.notes.specs.Places.{listed}
 use Rattle.entries.specs.Paths.{blank, holds}
-use Rattle.lists.specs.Search.{first}
-use Rattle.lists.proofs.Arrays.{first-here, first_next, first_done, full}
+use Rattle.lists.proofs.Arrays.{first-here, first_next, first_done}
 use Rattle.notes.proofs.find.Goals as goal
 
 pub loop-i-init : goal.loop-i-init

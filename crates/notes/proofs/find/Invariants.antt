@@ -1,15 +1,12 @@
 -- `find` meets its contract. The invariant: the first of all entries is i places before the first of those from i on.
 -- Assumes nothing.
-use mathlib.Core.Path.{◌≡◌, sym, ◌∙◌}
+use mathlib.Core.Path.{◌≡◌}
 use Prim.Native.Nat.{◌+◌, ◌-◌, ◌≤◌}
-use native.Mathlib.Omega.{arith}
-use borrow.Author.Rules.{rules}
 use lib.Seq.{slice}
 use lib.ListN.{length}
 use Rattle.notes.specs.Places.{listed}
-use Rattle.entries.specs.Paths.{blank, holds}
+use Rattle.entries.specs.Paths.{holds}
 use Rattle.lists.specs.Search.{first}
-use Rattle.lists.proofs.Arrays.{first-here, first_next, first_done, full}
 use Rattle.notes.proofs.find.Given as goal
 
 abbrev pub invariant-loop-i : goal.invariant-loop-i

@@ -1,6 +1,5 @@
 -- `group_of` meets its contract: each arm is a case of what `coarsen` ensures.
 -- Assumes nothing.
-use borrow.Author.Rules.{rules}
 use Rattle.notes.specs.Notes.{group_of}
 use Rattle.notes.proofs.group_of.Goals as goal
 

@@ -3,12 +3,10 @@
 use mathlib.Core.Path.{sym, ◌∙◌}
 use native.Mathlib.Omega.{arith}
 use borrow.Author.Tests.{lt-ltb, le-ltb}
-use borrow.Author.Rules.{rules}
 use Rattle.notes.specs.Places.{listed}
 use Rattle.entries.specs.Paths.{over}
 use Rattle.notes.proofs.Cases.{placed-found, placed-new}
 use Rattle.notes.proofs.Steps.{found, holds_as, entries-length, refreshed-at}
-use Rattle.lists.proofs.Arrays.{full}
 use Rattle.notes.proofs.insert.Goals as goal
 
 pub returns-then-at-held : goal.returns-then-at-held

@@ -1,15 +1,11 @@
 -- `largest_group` meets its contract. The invariant: the winner of all is the winner among the best so far and those from i on.
 -- Assumes nothing.
-use mathlib.Core.Path.{◌≡◌, refl, sym, ◌∙◌}
-use Prim.Native.Nat.{◌-◌, ◌≤◌}
+use mathlib.Core.Path.{refl, sym, ◌∙◌}
 use native.Mathlib.Omega.{arith}
 use borrow.Author.Rules.{rules}
-use lib.Seq.{slice}
-use lib.ListN.{length}
 use Rattle.notes.specs.Places.{listed}
-use Rattle.notes.specs.Notes.{largest, largest_from}
+use Rattle.notes.specs.Notes.{largest}
 use Rattle.notes.proofs.Steps.{largest-next, largest-done}
-use Rattle.lists.proofs.Arrays.{full}
 use Rattle.notes.proofs.largest_group.Goals as goal
 
 pub loop-i-init : goal.loop-i-init

@@ -1,16 +1,10 @@
 -- `newest_of` meets its contract. The invariant: the greatest identity is that so far or one from i on.
 -- Assumes nothing.
-use mathlib.Core.Path.{◌≡◌, sym, ◌∙◌}
-use Prim.Native.Nat.{◌-◌, ◌≤◌, max}
+use mathlib.Core.Path.{sym, ◌∙◌}
 use native.Mathlib.Omega.{arith}
 use borrow.Author.Rules.{rules}
-use lib.Seq.{slice}
-use lib.ListN.{length}
-use Rattle.notes.specs.Notes.{newest}
-use Rattle.notes.specs.Places.{listed}
 use Rattle.entries.specs.Paths.{holds}
 use Rattle.notes.proofs.Steps.{newest-hit, newest-miss, newest-done}
-use Rattle.lists.proofs.Arrays.{full}
 use Rattle.notes.proofs.newest_of.Goals as goal
 
 pub loop-i-init : goal.loop-i-init

@@ -1,12 +1,10 @@
 -- `promote` meets its contract. It has room for the coarser entry, since at least two entries went.
 -- Assumes nothing.
 use native.Mathlib.Omega.{arith}
-use borrow.Author.Rules.{rules}
 use Rattle.notes.specs.Places.{listed}
 use Rattle.notes.specs.Notes.{folded}
 use Rattle.notes.proofs.Groups.{swept-room}
 use Rattle.notes.proofs.Steps.{holds_as, entries-length}
-use Rattle.lists.proofs.Arrays.{full}
 use Rattle.notes.proofs.promote.Goals as goal
 
 pub push-requires : goal.push-requires

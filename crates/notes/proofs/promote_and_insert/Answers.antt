@@ -12,7 +12,6 @@ use Rattle.notes.specs.Notes.{placed}
 use Rattle.notes.proofs.Groups.{largest-covers, folded-room}
 use Rattle.notes.proofs.Cases.{crowded-fine, crowded-coarse, crowded-wild}
 use Rattle.notes.proofs.Steps.{holds_as, entries-length}
-use Rattle.lists.proofs.Arrays.{full}
 use Rattle.notes.proofs.promote_and_insert.Goals as goal
 use Rattle.notes.proofs.promote_and_insert.Goals.{Start}
 

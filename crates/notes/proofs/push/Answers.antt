@@ -1,10 +1,8 @@
 -- `push` meets its contract: a store behind the last entry, and one entry more.
 -- Assumes nothing.
 use native.Mathlib.Omega.{arith}
-use borrow.Author.Rules.{rules}
 use lib.ListN.{length-set}
 use Rattle.notes.proofs.Steps.{holding, pushed}
-use Rattle.lists.proofs.Arrays.{full}
 use Rattle.notes.proofs.push.Goals as goal
 
 pub returns : goal.returns

@@ -10,7 +10,6 @@ use Rattle.entries.specs.Paths.{over, under}
 use Rattle.lists.specs.Removal.{sweep}
 use Rattle.notes.proofs.Cases.{entered-found, entered-new, inserted-room, inserted-full}
 use Rattle.notes.proofs.Steps.{found, holds_as, entries-length, refreshed-at}
-use Rattle.lists.proofs.Arrays.{full}
 use Rattle.notes.proofs.record_raw.Goals as goal
 use Rattle.notes.proofs.record_raw.Goals.{Start}
 

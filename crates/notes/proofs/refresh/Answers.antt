@@ -1,10 +1,8 @@
 -- `refresh` meets its contract: a store among the entries.
 -- Assumes nothing.
 use native.Mathlib.Omega.{arith}
-use borrow.Author.Rules.{rules}
 use lib.ListN.{length-set}
 use Rattle.notes.proofs.Steps.{holding, renewed}
-use Rattle.lists.proofs.Arrays.{full}
 use Rattle.notes.proofs.refresh.Goals as goal
 
 pub returns : goal.returns

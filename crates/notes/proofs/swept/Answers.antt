@@ -1,15 +1,11 @@
 -- `swept` meets its contract. The invariant: what is left of all entries is what a scan under way at i leaves of the array as it is now.
 -- Assumes nothing.
-use mathlib.Core.Path.{◌≡◌, sym, ◌∙◌}
-use Prim.Native.Nat.{◌-◌, ◌≤◌}
+use mathlib.Core.Path.{sym, ◌∙◌}
 use native.Mathlib.Omega.{arith}
 use borrow.Author.Rules.{rules}
-use lib.ListN.{length}
-use Rattle.notes.specs.Places.{listed}
 use Rattle.entries.specs.Paths.{blank, holds}
-use Rattle.lists.specs.Removal.{sweep, scanned}
 use Rattle.notes.proofs.Steps.{holding}
-use Rattle.lists.proofs.Arrays.{full, scan-start, scan-out, scan-kept, scan-done}
+use Rattle.lists.proofs.Arrays.{scan-start, scan-out, scan-kept, scan-done}
 use Rattle.notes.proofs.swept.Goals as goal
 
 pub loop-i-init : goal.loop-i-init

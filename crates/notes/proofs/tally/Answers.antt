@@ -1,15 +1,11 @@
 -- `tally` meets its contract. The invariant: what was counted and what there is from i on are together what there is.
 -- Assumes nothing.
-use mathlib.Core.Path.{◌≡◌, sym, ap, ◌∙◌}
-use Prim.Native.Nat.{◌+◌, ◌-◌, ◌≤◌}
+use mathlib.Core.Path.{sym, ap, ◌∙◌}
 use native.Mathlib.Omega.{arith}
 use borrow.Author.Rules.{rules}
-use lib.Seq.{slice}
-use lib.ListN.{length}
-use Rattle.notes.specs.Places.{listed}
 use Rattle.entries.specs.Paths.{blank, holds}
-use Rattle.lists.specs.Search.{count, one}
-use Rattle.lists.proofs.Arrays.{count_next, count-done, full}
+use Rattle.lists.specs.Search.{one}
+use Rattle.lists.proofs.Arrays.{count_next, count-done}
 use Rattle.notes.proofs.tally.Goals as goal
 
 pub loop-i-init : goal.loop-i-init

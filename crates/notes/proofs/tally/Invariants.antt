@@ -1,15 +1,12 @@
 -- `tally` meets its contract. The invariant: what was counted and what there is from i on are together what there is.
 -- Assumes nothing.
-use mathlib.Core.Path.{◌≡◌, sym, ap, ◌∙◌}
+use mathlib.Core.Path.{◌≡◌}
 use Prim.Native.Nat.{◌+◌, ◌-◌, ◌≤◌}
-use native.Mathlib.Omega.{arith}
-use borrow.Author.Rules.{rules}
 use lib.Seq.{slice}
 use lib.ListN.{length}
 use Rattle.notes.specs.Places.{listed}
-use Rattle.entries.specs.Paths.{blank, holds}
-use Rattle.lists.specs.Search.{count, one}
-use Rattle.lists.proofs.Arrays.{count_next, count-done, full}
+use Rattle.entries.specs.Paths.{holds}
+use Rattle.lists.specs.Search.{count}
 use Rattle.notes.proofs.tally.Given as goal
 
 abbrev pub invariant-loop-i : goal.invariant-loop-i

@@ -1,15 +1,9 @@
 -- `tidied` meets its contract. The invariant: up to i the array holds the entries and then blanks.
 -- Assumes nothing.
-use mathlib.Core.List.{◌++◌}
-use mathlib.Core.Path.{◌≡◌}
-use Prim.Native.Nat.{◌-◌, ◌≤◌}
 use native.Mathlib.Omega.{arith}
 use borrow.Author.Rules.{rules}
-use lib.ListN.{length, take, replicate}
 use Rattle.notes.specs.Places.{listed}
-use Rattle.entries.specs.Paths.{blank}
 use Rattle.notes.proofs.Steps.{entries-length, blanked, blank-start, blank-end}
-use Rattle.lists.proofs.Arrays.{full}
 use Rattle.notes.proofs.tidied.Goals as goal
 
 pub loop-i-init : goal.loop-i-init

@@ -3,13 +3,9 @@
 use mathlib.Core.List.{◌++◌}
 use mathlib.Core.Path.{◌≡◌}
 use Prim.Native.Nat.{◌-◌, ◌≤◌}
-use native.Mathlib.Omega.{arith}
-use borrow.Author.Rules.{rules}
 use lib.ListN.{length, take, replicate}
 use Rattle.notes.specs.Places.{listed}
 use Rattle.entries.specs.Paths.{blank}
-use Rattle.notes.proofs.Steps.{entries-length, blanked, blank-start, blank-end}
-use Rattle.lists.proofs.Arrays.{full}
 use Rattle.notes.proofs.tidied.Given as goal
 
 abbrev pub invariant-loop-i : goal.invariant-loop-i

@@ -1,6 +1,5 @@
 -- `is_expired` meets its contract: each arm is a case of what `checked_add` ensures.
 -- Assumes nothing.
-use borrow.Author.Rules.{rules}
 use Rattle.time.specs.Moments.{expired}
 use Rattle.time.proofs.is_expired.Goals as goal
 

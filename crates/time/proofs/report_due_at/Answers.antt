@@ -1,6 +1,5 @@
 -- `report_due_at` meets its contract by what `due_after_secs` and `since_report` ensure.
 -- Assumes nothing.
-use borrow.Author.Rules.{rules}
 use Rattle.time.proofs.report_due_at.Goals as goal
 
 pub returns : goal.returns

@@ -1,6 +1,5 @@
 -- `retry_at` meets its contract by what `retry_backoff_secs`, `checked_add` and `unwrap_or` ensure.
 -- Assumes nothing.
-use borrow.Author.Rules.{rules}
 use Rattle.time.specs.Moments.{retry_at}
 use Rattle.time.proofs.retry_at.Goals as goal
 

@@ -1,7 +1,6 @@
 -- `since_report` meets its contract: the test is the definition's, and what `checked_add` and `unwrap_or` ensure is its other case.
 -- Assumes nothing.
 use mathlib.Core.Path.{sym, ◌∙◌}
-use borrow.Author.Rules.{rules}
 use Rattle.time.specs.Moments.{since_report}
 use Rattle.time.proofs.since_report.Goals as goal
 

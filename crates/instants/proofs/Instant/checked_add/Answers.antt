@@ -2,7 +2,6 @@
 -- Assumes nothing.
 use Prim.Native.Nat.{◌+◌, ◌*◌}
 use native.Mathlib.Omega.{arith}
-use borrow.Author.Rules.{rules}
 use borrow.Author.Tests.{le-leb, lt-leb}
 use Rattle.instants.specs.Instants.{later, last_instant}
 use Rattle.instants.proofs.Instant.checked_add.Goals as goal

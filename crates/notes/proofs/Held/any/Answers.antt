@@ -1,7 +1,6 @@
 -- `Held::any` meets its contract: `find` stops among the entries exactly where some entry meets the rule.
 -- Assumes nothing.
 use mathlib.Core.Path.{sym, ap, ◌∙◌}
-use borrow.Author.Rules.{rules}
 use Rattle.lists.specs.Search.{first}
 use Rattle.entries.specs.Paths.{holds}
 use Rattle.notes.specs.Places.{listed}

@@ -1,6 +1,5 @@
 -- `Held::enter` meets its contract: `record_raw` gives the entries, `tidied` the array that they settle.
 -- Assumes nothing.
-use borrow.Author.Rules.{rules}
 use Rattle.notes.proofs.Held.enter.Goals as goal
 
 pub returns : goal.returns

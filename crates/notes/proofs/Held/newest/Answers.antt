@@ -1,6 +1,5 @@
 -- `Held::newest` meets its contract: the same entries, with a length within the array.
 -- Assumes nothing.
-use borrow.Author.Rules.{rules}
 use Rattle.notes.proofs.Held.newest.Goals as goal
 
 pub returns : goal.returns

@@ -1,6 +1,5 @@
 -- `Held::without` meets its contract: `swept` gives the entries, `tidied` the array that they settle.
 -- Assumes nothing.
-use borrow.Author.Rules.{rules}
 use Rattle.notes.proofs.Held.without.Goals as goal
 
 pub returns : goal.returns

@@ -1,7 +1,6 @@
 -- `close` meets its contract: each return is a case of the definition, by the outcome, with what `next_fails`, `retry_at` and `stored` ensure.
 -- Assumes nothing.
 use borrow.Author.Tests.{eq-eqb, ne_eqb}
-use borrow.Author.Rules.{rules}
 use Rattle.subscription.specs.Life.{closed}
 use Rattle.subscription.proofs.Subscription.close.Goals as goal
 

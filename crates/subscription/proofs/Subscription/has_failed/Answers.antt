@@ -1,7 +1,6 @@
 -- `has_failed` meets its contract: each return is a case of the definition, by the outcome.
 -- Assumes nothing.
 use borrow.Author.Tests.{eq-eqb, ne_eqb}
-use borrow.Author.Rules.{rules}
 use Rattle.subscription.specs.Life.{failed}
 use Rattle.subscription.proofs.Subscription.has_failed.Goals as goal
 

@@ -1,6 +1,5 @@
 -- `is_expired` meets its contract: it is `time`'s answer for the fields.
 -- Assumes nothing.
-use borrow.Author.Rules.{rules}
 use Rattle.subscription.specs.When.{is_over}
 use Rattle.subscription.proofs.Subscription.is_expired.Goals as goal
 

@@ -1,7 +1,6 @@
 -- `is_given_up` meets its contract: each return is a case of the definition, by the outcome.
 -- Assumes nothing.
 use borrow.Author.Tests.{eq-eqb, ne_eqb}
-use borrow.Author.Rules.{rules}
 use Rattle.subscription.specs.Life.{gives_up}
 use Rattle.subscription.proofs.Subscription.is_given_up.Goals as goal
 

@@ -1,7 +1,6 @@
 -- `is_kept` meets its contract: each return is a case of the definition, by what `is_given_up` says.
 -- Assumes nothing.
 use mathlib.Core.Path.{sym, ◌∙◌}
-use borrow.Author.Rules.{rules}
 use Rattle.subscription.specs.Life.{keeps}
 use Rattle.subscription.proofs.Subscription.is_kept.Goals as goal
 

@@ -1,6 +1,5 @@
 -- `is_report_due` meets its contract: it compares what `report_due_at` ensures with now.
 -- Assumes nothing.
-use borrow.Author.Rules.{rules}
 use Rattle.subscription.specs.When.{is_due}
 use Rattle.subscription.proofs.Subscription.is_report_due.Goals as goal
 

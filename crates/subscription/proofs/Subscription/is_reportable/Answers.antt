@@ -2,7 +2,6 @@
 -- Assumes nothing.
 use mathlib.Core.Path.{sym, ◌∙◌}
 use borrow.Author.Tests.{le-leb, lt-leb}
-use borrow.Author.Rules.{rules}
 use Rattle.subscription.specs.When.{reportable}
 use Rattle.subscription.proofs.Subscription.is_reportable.Goals as goal
 

@@ -1,6 +1,5 @@
 -- `min_int_gate` meets its contract: it is `time`'s answer for the fields.
 -- Assumes nothing.
-use borrow.Author.Rules.{rules}
 use Rattle.subscription.specs.When.{gate_of}
 use Rattle.subscription.proofs.Subscription.min_int_gate.Goals as goal
 

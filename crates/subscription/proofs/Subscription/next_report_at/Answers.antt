@@ -1,7 +1,6 @@
 -- `next_report_at` meets its contract: each return is a case of the definition, by what `is_pending` says.
 -- Assumes nothing.
 use mathlib.Core.Path.{sym, ◌∙◌}
-use borrow.Author.Rules.{rules}
 use Rattle.subscription.specs.When.{next_of}
 use Rattle.subscription.proofs.Subscription.next_report_at.Goals as goal
 

@@ -1,6 +1,5 @@
 -- `report_allowed_at` meets its contract by what `min_int_gate` and `max` ensure.
 -- Assumes nothing.
-use borrow.Author.Rules.{rules}
 use Rattle.subscription.specs.When.{allowed_of}
 use Rattle.subscription.proofs.Subscription.report_allowed_at.Goals as goal
 

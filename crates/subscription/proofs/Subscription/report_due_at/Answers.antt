@@ -1,6 +1,5 @@
 -- `report_due_at` meets its contract: it is `time`'s answer for the fields.
 -- Assumes nothing.
-use borrow.Author.Rules.{rules}
 use Rattle.subscription.specs.When.{due_of}
 use Rattle.subscription.proofs.Subscription.report_due_at.Goals as goal
 

@@ -1,6 +1,5 @@
 -- `due_after_secs` meets its contract: each arm is a case of the definition.
 -- Assumes nothing.
-use borrow.Author.Rules.{rules}
 use Rattle.time.specs.Intervals.{due_after_secs}
 use Rattle.time.proofs.KeepAlive.due_after_secs.Goals as goal
 
