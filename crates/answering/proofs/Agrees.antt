@@ -16,7 +16,7 @@ use Rattle.rules.specs.States.{State, well_kept}
 use Rattle.rules.specs.Calls.{Op}
 use Rattle.rules.specs.Machine.{step}
 use Rattle.rules.specs.Calls as call
-use Rattle.rules.proofs.Kept.{step-well-kept}
+use Rattle.rules.proofs.Kept.{step_well_kept}
 use Rattle.places.specs.declared.Table.{Table}
 use Rattle.places.specs.declared.Admission.{Admission}
 use Rattle.places.specs.declared.Completion.{Completion}
@@ -32,14 +32,14 @@ use Rattle.places.specs.Views.{view, kept}
 use Rattle.places.specs.Tidiness.{Whole}
 use Rattle.places.specs.Calls.{new_table, add_to, note_in, report_in, complete_in, attribute_at, next_at}
 use Rattle.places.specs.Agreement.{hand_out_answer, admission_answer, hearing_answer, completion_answer, told_answer, moment_answer, new_answer, new_leaves}
-use Rattle.places.proofs.NewAgrees.{new-agrees, new-lasts}
-use Rattle.places.proofs.AdmissionAgrees.{add-agrees, note-agrees}
-use Rattle.places.proofs.ReportAgrees.{report-agrees}
-use Rattle.places.proofs.CompletionAgrees.{complete-agrees, attribute-agrees}
-use Rattle.places.proofs.QuestionsAgree.{next-agrees}
-use Rattle.places.proofs.Lasting.{add-lasts, note-lasts, report-lasts, complete-lasts}
-use Rattle.places.proofs.Tidying.{whole-lasts, fresh-tidy}
-use Rattle.places.proofs.TidyViews.{whole-kept}
+use Rattle.places.proofs.NewAgrees.{new_agrees, new_lasts}
+use Rattle.places.proofs.AdmissionAgrees.{add_agrees, note_agrees}
+use Rattle.places.proofs.ReportAgrees.{report_agrees}
+use Rattle.places.proofs.CompletionAgrees.{complete_agrees, attribute_agrees}
+use Rattle.places.proofs.QuestionsAgree.{next_agrees}
+use Rattle.places.proofs.Lasting.{add_lasts, note_lasts, report_lasts, complete_lasts}
+use Rattle.places.proofs.Tidying.{whole_lasts, fresh_tidy}
+use Rattle.places.proofs.TidyViews.{whole_kept}
 use Rattle.lines.specs.declared.Line.{Line}
 use Rattle.lines.specs.declared.Line.TheVariants.{New, Add, Note, Report, Done, Attr, Wake, Bad}
 use Rattle.answering.specs.declared.Reply.{Reply}
@@ -51,88 +51,88 @@ use Rattle.answering.specs.Rules.{call_of, reply_of, Said, said_by, line_by, lin
 abbrev said : Table → Reply → Said
 said t reply = spoken (answered t reply)
 
-admission-said : (x : Admission) → admission_reply x ≡ reply_of (admission_answer x)
-admission-said (admission.Id id) = refl
-admission-said (admission.Refused why) = refl
+admission_said : (x : Admission) → admission_reply x ≡ reply_of (admission_answer x)
+admission_said (admission.Id id) = refl
+admission_said (admission.Refused why) = refl
 
-hearing-said : (x : Hearing) → hearing_reply x ≡ reply_of (hearing_answer x)
-hearing-said (hearing.Entered y) = refl
-hearing-said (hearing.Refused why) = refl
+hearing_said : (x : Hearing) → hearing_reply x ≡ reply_of (hearing_answer x)
+hearing_said (hearing.Entered y) = refl
+hearing_said (hearing.Refused why) = refl
 
-hand-out-said : (x : HandOut) → hand_out_reply x ≡ reply_of (hand_out_answer x)
-hand-out-said (hand_out.To y) = refl
-hand-out-said hand_out.Nothing = refl
-hand-out-said (hand_out.Refused why) = refl
+hand_out_said : (x : HandOut) → hand_out_reply x ≡ reply_of (hand_out_answer x)
+hand_out_said (hand_out.To y) = refl
+hand_out_said hand_out.Nothing = refl
+hand_out_said (hand_out.Refused why) = refl
 
-completion-said : (x : Completion) → completion_reply x ≡ reply_of (completion_answer x)
-completion-said (completion.Ended y) = refl
-completion-said (completion.Refused why) = refl
+completion_said : (x : Completion) → completion_reply x ≡ reply_of (completion_answer x)
+completion_said (completion.Ended y) = refl
+completion_said (completion.Refused why) = refl
 
-told-said : (x : Told) → told_reply x ≡ reply_of (told_answer x)
-told-said (is.Is b) = refl
-told-said (is.Refused why) = refl
+told_said : (x : Told) → told_reply x ≡ reply_of (told_answer x)
+told_said (is.Is b) = refl
+told_said (is.Refused why) = refl
 
-moment-said : (x : Moment) → moment_reply x ≡ reply_of (moment_answer x)
-moment-said (moment.At at) = refl
-moment-said (moment.Refused why) = refl
+moment_said : (x : Moment) → moment_reply x ≡ reply_of (moment_answer x)
+moment_said (moment.At at) = refl
+moment_said (moment.Refused why) = refl
 
-new-said : (t : Table) (x : Change) (u : Table) → spoken (renewed_by t x u) ≡ record { reply = reply_of (new_answer x u); state = view (new_leaves x t u) }
-new-said t change.Done u = refl
-new-said t (change.Refused why) u = refl
+new_said : (t : Table) (x : Change) (u : Table) → spoken (renewed_by t x u) ≡ record { reply = reply_of (new_answer x u); state = view (new_leaves x t u) }
+new_said t change.Done u = refl
+new_said t (change.Refused why) u = refl
 
 -- a new table
-renewed-agrees : (t : Table) (capacity : ℕ) → spoken (renewed_in t capacity) ≡ said_by (step (call.new capacity) (view t))
+renewed_agrees : (t : Table) (capacity : ℕ) → spoken (renewed_in t capacity) ≡ said_by (step (call.new capacity) (view t))
 unfolding renewed_in
-renewed-agrees t capacity =
-    new-said t (new_table capacity).answer (new_table capacity).table ∙ ap said_by (new-agrees t capacity)
+renewed_agrees t capacity =
+    new_said t (new_table capacity).answer (new_table capacity).table ∙ ap said_by (new_agrees t capacity)
 
-new-left : (t : Table) (x : Change) (u : Table) → (renewed_by t x u).table ≡ new_leaves x t u
-new-left t change.Done u = refl
-new-left t (change.Refused why) u = refl
+new_left : (t : Table) (x : Change) (u : Table) → (renewed_by t x u).table ≡ new_leaves x t u
+new_left t change.Done u = refl
+new_left t (change.Refused why) u = refl
 
-renewed-whole : (t : Table) (capacity : ℕ) → Whole t → Whole (renewed_in t capacity).table
+renewed_whole : (t : Table) (capacity : ℕ) → Whole t → Whole (renewed_in t capacity).table
 unfolding renewed_in
-renewed-whole t capacity h =
-    rw (new-left t (new_table capacity).answer (new_table capacity).table) (new-lasts Whole (λ c. (fresh-tidy c).whole) t capacity h)
+renewed_whole t capacity h =
+    rw (new_left t (new_table capacity).answer (new_table capacity).table) (new_lasts Whole (λ c. (fresh_tidy c).whole) t capacity h)
 
 -- what a line does is what the rules do
-pub answer-agrees : (t : Table) → Whole t → kept t ≡ true → (l : Line) → spoken (answer_in t l) ≡ line_step l (view t)
+pub answer_agrees : (t : Table) → Whole t → kept t ≡ true → (l : Line) → spoken (answer_in t l) ≡ line_step l (view t)
 unfolding answer_in added_in noted_in reported_in done_in line_step call_of
-answer-agrees t whole h (New capacity) = renewed-agrees t capacity
-answer-agrees t whole h (Add now fabric peer min max events rx) =
+answer_agrees t whole h (New capacity) = renewed_agrees t capacity
+answer_agrees t whole h (Add now fabric peer min max events rx) =
     let r = add_to t (request_of fabric peer min max rx) events (instant now) in
-    ap (said r.table) (admission-said r.answer) ∙ ap said_by (add-agrees t whole.long h (request_of fabric peer min max rx) events (instant now))
-answer-agrees t whole h (Note e c a) =
-    let r = note_in t e c a in ap (said r.table) (hearing-said r.answer) ∙ ap said_by (note-agrees t whole.long h e c a)
-answer-agrees t whole h (Report now events icd all) =
+    ap (said r.table) (admission_said r.answer) ∙ ap said_by (add_agrees t whole.long h (request_of fabric peer min max rx) events (instant now))
+answer_agrees t whole h (Note e c a) =
+    let r = note_in t e c a in ap (said r.table) (hearing_said r.answer) ∙ ap said_by (note_agrees t whole.long h e c a)
+answer_agrees t whole h (Report now events icd all) =
     let r = report_in t (settings_of now events icd all) in
-    ap (said r.table) (hand-out-said r.answer) ∙ ap said_by (report-agrees t whole.long h (settings_of now events icd all))
-answer-agrees t whole h (Done id o) =
-    let r = complete_in t id o in ap (said r.table) (completion-said r.answer) ∙ ap said_by (complete-agrees t whole.long h id o)
-answer-agrees t whole h (Attr id e c a) =
-    ap (said t) (told-said (attribute_at t id e c a)) ∙ ap said_by (attribute-agrees t whole.long h id e c a)
-answer-agrees t whole h (Wake events icd) =
-    ap (said t) (moment-said (next_at t events (keep_alive_of icd))) ∙ ap said_by (next-agrees t whole.long h events (keep_alive_of icd))
-answer-agrees t whole h Bad = refl
+    ap (said r.table) (hand_out_said r.answer) ∙ ap said_by (report_agrees t whole.long h (settings_of now events icd all))
+answer_agrees t whole h (Done id o) =
+    let r = complete_in t id o in ap (said r.table) (completion_said r.answer) ∙ ap said_by (complete_agrees t whole.long h id o)
+answer_agrees t whole h (Attr id e c a) =
+    ap (said t) (told_said (attribute_at t id e c a)) ∙ ap said_by (attribute_agrees t whole.long h id e c a)
+answer_agrees t whole h (Wake events icd) =
+    ap (said t) (moment_said (next_at t events (keep_alive_of icd))) ∙ ap said_by (next_agrees t whole.long h events (keep_alive_of icd))
+answer_agrees t whole h Bad = refl
 
-pub answer-whole : (t : Table) → Whole t → (l : Line) → Whole (answer_in t l).table
+pub answer_whole : (t : Table) → Whole t → (l : Line) → Whole (answer_in t l).table
 unfolding answer_in added_in noted_in reported_in done_in
-answer-whole t whole (New capacity) = renewed-whole t capacity whole
-answer-whole t whole (Add now fabric peer min max events rx) = add-lasts whole-lasts t whole (request_of fabric peer min max rx) events (instant now)
-answer-whole t whole (Note e c a) = note-lasts whole-lasts t whole e c a
-answer-whole t whole (Report now events icd all) = report-lasts whole-lasts t whole (settings_of now events icd all)
-answer-whole t whole (Done id o) = complete-lasts whole-lasts t whole id o
-answer-whole t whole (Attr id e c a) = whole
-answer-whole t whole (Wake events icd) = whole
-answer-whole t whole Bad = whole
+answer_whole t whole (New capacity) = renewed_whole t capacity whole
+answer_whole t whole (Add now fabric peer min max events rx) = add_lasts whole_lasts t whole (request_of fabric peer min max rx) events (instant now)
+answer_whole t whole (Note e c a) = note_lasts whole_lasts t whole e c a
+answer_whole t whole (Report now events icd all) = report_lasts whole_lasts t whole (settings_of now events icd all)
+answer_whole t whole (Done id o) = complete_lasts whole_lasts t whole id o
+answer_whole t whole (Attr id e c a) = whole
+answer_whole t whole (Wake events icd) = whole
+answer_whole t whole Bad = whole
 
 line_kept : (op : Option Op) (s : State) → well_kept s ≡ true → well_kept (line_by op s).state ≡ true
 line_kept none s h = h
-line_kept (just op) s h = step-well-kept op s h
+line_kept (just op) s h = step_well_kept op s h
 
-pub answer-kept : (t : Table) → Whole t → kept t ≡ true → (l : Line) → kept (answer_in t l).table ≡ true
+pub answer_kept : (t : Table) → Whole t → kept t ≡ true → (l : Line) → kept (answer_in t l).table ≡ true
 unfolding line_step
-answer-kept t whole h l =
-    whole-kept (answer_in t l).table (answer-whole t whole l)
-    ∙ ap (λ (s : Said). well_kept s.state) (answer-agrees t whole h l)
-    ∙ line_kept (call_of l) (view t) (sym (whole-kept t whole) ∙ h)
+answer_kept t whole h l =
+    whole_kept (answer_in t l).table (answer_whole t whole l)
+    ∙ ap (λ (s : Said). well_kept s.state) (answer_agrees t whole h l)
+    ∙ line_kept (call_of l) (view t) (sym (whole_kept t whole) ∙ h)

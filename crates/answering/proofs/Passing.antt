@@ -18,16 +18,16 @@ passed_on table_of reply_of r s reply e f = ap (answered (table_of r)) f ∙ ap 
 
 -- a new table, and one that is refused
 module _ (t : Table) (capacity : ℕ) (made : Settled) (reply : Reply) (e : made ≡ new_table capacity) where
-  pub renewed-made : made.answer ≡ change.Done → reply ≡ told made.table.capacity → answered made.table reply ≡ renewed_in t capacity
+  pub renewed_made : made.answer ≡ change.Done → reply ≡ told made.table.capacity → answered made.table reply ≡ renewed_in t capacity
   unfolding renewed_in
-  renewed-made d f =
+  renewed_made d f =
       ap (answered made.table) f
       ∙ ap (λ (a : Change). renewed_by t a made.table) (sym d)
       ∙ ap (λ (m : Settled). renewed_by t m.answer m.table) e
 
-  pub renewed-refused : (why : Refusal) → made.answer ≡ change.Refused why → reply ≡ refused_with why → answered t reply ≡ renewed_in t capacity
+  pub renewed_refused : (why : Refusal) → made.answer ≡ change.Refused why → reply ≡ refused_with why → answered t reply ≡ renewed_in t capacity
   unfolding renewed_in
-  renewed-refused why d f =
+  renewed_refused why d f =
       ap (answered t) f
       ∙ ap (λ (a : Change). renewed_by t a made.table) (sym d)
       ∙ ap (λ (m : Settled). renewed_by t m.answer m.table) e

@@ -12,105 +12,105 @@ use Rattle.answers.specs.declared.Mark.TheVariants as mark
 use Rattle.notes.specs.Places.{held_as}
 use Rattle.changes.specs.Logs.{entries_of, holding, empty_log, kept, fresh_log, watermark_of, after_note, noted, after_purge, purged, cleared, marked, newest_of, newest_mark, any_since, changed_since, any_told, path_told}
 use Rattle.changes.specs.Reach.{Tidy, note}
-use Rattle.lists.proofs.Bools.{and-true}
-use Rattle.changes.proofs.Cases.{kept-fits, kept_next}
-use Rattle.notes.proofs.Laws.{list_held, length-held, none-held}
+use Rattle.lists.proofs.Bools.{and_true}
+use Rattle.changes.proofs.Cases.{kept_fits, kept_next}
+use Rattle.notes.proofs.Laws.{list_held, length_held, none_held}
 
 -- ---- a log and its entries
 
 -- the entries of a log that holds l are l
-pub entries-held : (l : List ChangedAttr) (k : ℕ) → entries_of (holding l k) ≡ l
+pub entries_held : (l : List ChangedAttr) (k : ℕ) → entries_of (holding l k) ≡ l
 unfolding holding
-entries-held l k = list_held l
+entries_held l k = list_held l
 
 -- and it goes on from the identity it was given
-pub next-held : (l : List ChangedAttr) (k : ℕ) → (holding l k).next ≡ k
+pub next_held : (l : List ChangedAttr) (k : ℕ) → (holding l k).next ≡ k
 unfolding holding
-next-held l k = refl
+next_held l k = refl
 
 -- a log that holds l is settled by it
-pub held-tidy : (l : List ChangedAttr) (k : ℕ) → Tidy (holding l k)
-held-tidy l k =
-    sym (ap (λ m. holding m k) (entries-held l k)) ∙ ap (holding (entries_of (holding l k))) (sym (next-held l k))
+pub held_tidy : (l : List ChangedAttr) (k : ℕ) → Tidy (holding l k)
+held_tidy l k =
+    sym (ap (λ m. holding m k) (entries_held l k)) ∙ ap (holding (entries_of (holding l k))) (sym (next_held l k))
 
 pub held_kept : (l : List ChangedAttr) (k : ℕ) → length l ≤ 16 → (k ≡ 0 → ⊥) → kept (holding l k) ≡ true
 unfolding holding kept
-held_kept l k fits on = and-true (le-leb (held_as l).len 16 (omega (arith, length-held l))) (ap not (ne_eqb k 0 on))
+held_kept l k fits on = and_true (le-leb (held_as l).len 16 (omega (arith, length_held l))) (ap not (ne_eqb k 0 on))
 
 -- at most sixteen
 pub entries_fit : (g : ChangedAttrs) → kept g ≡ true → length (entries_of g) ≤ 16
-entries_fit g h = omega (arith, length-take g.held.len g.held.entries, kept-fits g h)
+entries_fit g h = omega (arith, length-take g.held.len g.held.entries, kept_fits g h)
 
 pub fresh_kept : kept fresh_log ≡ true
 unfolding kept
 fresh_kept = refl
 
 -- a log that holds nothing is the same
-pub empty-held : (k : ℕ) → empty_log k ≡ holding [] k
+pub empty_held : (k : ℕ) → empty_log k ≡ holding [] k
 unfolding holding
-empty-held k = rw none-held
+empty_held k = rw none_held
 
-pub fresh-tidy : Tidy fresh_log
-fresh-tidy = empty-held 1
+pub fresh_tidy : Tidy fresh_log
+fresh_tidy = empty_held 1
 
 -- of a well-kept log the watermark is below the next identity
-pub watermark-below : (g : ChangedAttrs) → kept g ≡ true → watermark_of g < g.next
-watermark-below g h =
+pub watermark_below : (g : ChangedAttrs) → kept g ≡ true → watermark_of g < g.next
+watermark_below g h =
     let on : 0 < g.next = lt_of_le-ne (omega arith) (λ z. kept_next g h (sym z)) in
     omega arith
 
 -- ---- the answers: a log that is not well kept is refused and handed back, another is served
 
 module _ (g : ChangedAttrs) (h : kept g ≡ false) where
-  pub note-refused : (e c a : ℕ) → noted g e c a ≡ record { answer = note.Refused NotWellKept; log = g }
+  pub note_refused : (e c a : ℕ) → noted g e c a ≡ record { answer = note.Refused NotWellKept; log = g }
   unfolding noted
-  note-refused e c a = rw (h, noted)
+  note_refused e c a = rw (h, noted)
 
-  pub purge-refused : (t : ℕ) → purged g t ≡ record { answer = change.Refused NotWellKept; log = g }
+  pub purge_refused : (t : ℕ) → purged g t ≡ record { answer = change.Refused NotWellKept; log = g }
   unfolding purged
-  purge-refused t = rw (h, purged)
+  purge_refused t = rw (h, purged)
 
-  pub clear-refused : cleared g ≡ record { answer = change.Refused NotWellKept; log = g }
+  pub clear_refused : cleared g ≡ record { answer = change.Refused NotWellKept; log = g }
   unfolding cleared
-  clear-refused = rw (h, cleared)
+  clear_refused = rw (h, cleared)
 
-  pub mark-refused : marked g ≡ mark.Refused NotWellKept
+  pub mark_refused : marked g ≡ mark.Refused NotWellKept
   unfolding marked
-  mark-refused = rw (h, marked)
+  mark_refused = rw (h, marked)
 
-  pub any-refused : (s : ℕ) → any_told g s ≡ told.Refused NotWellKept
+  pub any_refused : (s : ℕ) → any_told g s ≡ told.Refused NotWellKept
   unfolding any_told
-  any-refused s = rw (h, any_told)
+  any_refused s = rw (h, any_told)
 
-  pub path-refused : (e c a s : ℕ) → path_told g e c a s ≡ told.Refused NotWellKept
+  pub path_refused : (e c a s : ℕ) → path_told g e c a s ≡ told.Refused NotWellKept
   unfolding path_told
-  path-refused e c a s = rw (h, path_told)
+  path_refused e c a s = rw (h, path_told)
 
 module _ (g : ChangedAttrs) (h : kept g ≡ true) where
-  pub note-answer : (e c a : ℕ) → noted g e c a ≡ record { answer = note.Entered (record { identity = g.next }); log = after_note g e c a }
+  pub note_answer : (e c a : ℕ) → noted g e c a ≡ record { answer = note.Entered (record { identity = g.next }); log = after_note g e c a }
   unfolding noted
-  note-answer e c a = rw (h, noted)
+  note_answer e c a = rw (h, noted)
 
-  pub purge-answer : (t : ℕ) → purged g t ≡ record { answer = change.Done; log = after_purge g t }
+  pub purge_answer : (t : ℕ) → purged g t ≡ record { answer = change.Done; log = after_purge g t }
   unfolding purged
-  purge-answer t = rw (h, purged)
+  purge_answer t = rw (h, purged)
 
-  pub clear-answer : cleared g ≡ record { answer = change.Done; log = holding [] g.next }
+  pub clear_answer : cleared g ≡ record { answer = change.Done; log = holding [] g.next }
   unfolding cleared
-  clear-answer = rw (h, cleared) (rw (empty-held g.next))
+  clear_answer = rw (h, cleared) (rw (empty_held g.next))
 
-  pub mark-answer : marked g ≡ mark.At (watermark_of g)
+  pub mark_answer : marked g ≡ mark.At (watermark_of g)
   unfolding marked
-  mark-answer = rw (h, marked)
+  mark_answer = rw (h, marked)
 
-  pub newest-answer : newest_mark g ≡ mark.At (newest_of g)
+  pub newest_answer : newest_mark g ≡ mark.At (newest_of g)
   unfolding newest_mark
-  newest-answer = rw (h, newest_mark)
+  newest_answer = rw (h, newest_mark)
 
-  pub any-answer : (s : ℕ) → any_told g s ≡ told.Is (any_since g s)
+  pub any_answer : (s : ℕ) → any_told g s ≡ told.Is (any_since g s)
   unfolding any_told
-  any-answer s = rw (h, any_told)
+  any_answer s = rw (h, any_told)
 
-  pub path-answer : (e c a s : ℕ) → path_told g e c a s ≡ told.Is (changed_since g e c a s)
+  pub path_answer : (e c a s : ℕ) → path_told g e c a s ≡ told.Is (changed_since g e c a s)
   unfolding path_told
-  path-answer e c a s = rw (h, path_told)
+  path_answer e c a s = rw (h, path_told)

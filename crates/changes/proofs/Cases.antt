@@ -7,9 +7,9 @@ use Rattle.changes.specs.Logs.{kept}
 use Rattle.lists.proofs.Bools.{and_both}
 
 -- a log that is well kept has at most sixteen entries
-pub kept-fits : (g : ChangedAttrs) → kept g ≡ true → g.held.len ≤ 16
+pub kept_fits : (g : ChangedAttrs) → kept g ≡ true → g.held.len ≤ 16
 unfolding kept
-kept-fits g h = leb-true g.held.len 16 (and_both (leb g.held.len 16) (not (eqb g.next 0)) h).0
+kept_fits g h = leb-true g.held.len 16 (and_both (leb g.held.len 16) (not (eqb g.next 0)) h).0
 
 -- and a next identity
 pub kept_next : (g : ChangedAttrs) → kept g ≡ true → g.next ≡ 0 → ⊥

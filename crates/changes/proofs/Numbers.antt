@@ -8,42 +8,42 @@ use Rattle.answers.specs.Numbers.{note_number, note_value, change_number, told_n
 use Rattle.lists.proofs.Bools.{split}
 
 module _ (g : ChangedAttrs) where
-  pub note-number : (e c a : ℕ) → note_number (noted g e c a).answer ≡ cond (kept g) 0 7
+  pub note_number_lem : (e c a : ℕ) → note_number (noted g e c a).answer ≡ cond (kept g) 0 7
   unfolding noted
-  note-number e c a = split (kept g) (λ t. rw (t, noted)) (λ t. rw (t, noted))
+  note_number_lem e c a = split (kept g) (λ t. rw (t, noted)) (λ t. rw (t, noted))
 
-  pub note-value : (e c a : ℕ) → note_value (noted g e c a).answer ≡ cond (kept g) g.next 0
+  pub note_value_lem : (e c a : ℕ) → note_value (noted g e c a).answer ≡ cond (kept g) g.next 0
   unfolding noted
-  note-value e c a = split (kept g) (λ t. rw (t, noted)) (λ t. rw (t, noted))
+  note_value_lem e c a = split (kept g) (λ t. rw (t, noted)) (λ t. rw (t, noted))
 
-  pub purge-number : (threshold : ℕ) → change_number (purged g threshold).answer ≡ cond (kept g) 0 7
+  pub purge_number : (threshold : ℕ) → change_number (purged g threshold).answer ≡ cond (kept g) 0 7
   unfolding purged
-  purge-number threshold = split (kept g) (λ t. rw (t, purged)) (λ t. rw (t, purged))
+  purge_number threshold = split (kept g) (λ t. rw (t, purged)) (λ t. rw (t, purged))
 
-  pub clear-number : change_number (cleared g).answer ≡ cond (kept g) 0 7
+  pub clear_number : change_number (cleared g).answer ≡ cond (kept g) 0 7
   unfolding cleared
-  clear-number = split (kept g) (λ t. rw (t, cleared)) (λ t. rw (t, cleared))
+  clear_number = split (kept g) (λ t. rw (t, cleared)) (λ t. rw (t, cleared))
 
-  pub mark-number : mark_number (marked g) ≡ cond (kept g) 0 7
+  pub mark_number_lem : mark_number (marked g) ≡ cond (kept g) 0 7
   unfolding marked
-  mark-number = split (kept g) (λ t. rw (t, marked)) (λ t. rw (t, marked))
+  mark_number_lem = split (kept g) (λ t. rw (t, marked)) (λ t. rw (t, marked))
 
-  pub mark-value : mark_value (marked g) ≡ cond (kept g) (watermark_of g) 0
+  pub mark_value_lem : mark_value (marked g) ≡ cond (kept g) (watermark_of g) 0
   unfolding marked
-  mark-value = split (kept g) (λ t. rw (t, marked)) (λ t. rw (t, marked))
+  mark_value_lem = split (kept g) (λ t. rw (t, marked)) (λ t. rw (t, marked))
 
-  pub any-number : (s : ℕ) → told_number (any_told g s) ≡ cond (kept g) 0 7
+  pub any_number : (s : ℕ) → told_number (any_told g s) ≡ cond (kept g) 0 7
   unfolding any_told
-  any-number s = split (kept g) (λ t. rw (t, any_told)) (λ t. rw (t, any_told))
+  any_number s = split (kept g) (λ t. rw (t, any_told)) (λ t. rw (t, any_told))
 
   pub any_value : (s : ℕ) → told_value (any_told g s) ≡ cond (kept g) (one (any_since g s)) 0
   unfolding any_told
   any_value s = split (kept g) (λ t. rw (t, any_told)) (λ t. rw (t, any_told))
 
-  pub path-number : (e c a s : ℕ) → told_number (path_told g e c a s) ≡ cond (kept g) 0 7
+  pub path_number : (e c a s : ℕ) → told_number (path_told g e c a s) ≡ cond (kept g) 0 7
   unfolding path_told
-  path-number e c a s = split (kept g) (λ t. rw (t, path_told)) (λ t. rw (t, path_told))
+  path_number e c a s = split (kept g) (λ t. rw (t, path_told)) (λ t. rw (t, path_told))
 
-  pub path-value : (e c a s : ℕ) → told_value (path_told g e c a s) ≡ cond (kept g) (one (changed_since g e c a s)) 0
+  pub path_value : (e c a s : ℕ) → told_value (path_told g e c a s) ≡ cond (kept g) (one (changed_since g e c a s)) 0
   unfolding path_told
-  path-value e c a s = split (kept g) (λ t. rw (t, path_told)) (λ t. rw (t, path_told))
+  path_value e c a s = split (kept g) (λ t. rw (t, path_told)) (λ t. rw (t, path_told))

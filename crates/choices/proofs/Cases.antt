@@ -11,22 +11,22 @@ use Rattle.subscription.specs.When.{is_over}
 use Rattle.choices.specs.Choices.{chosen}
 
 module _ (x : Subscription) where
-  pub chosen-all : chosen All x ≡ true
+  pub chosen_all : chosen All x ≡ true
   unfolding chosen
-  chosen-all = refl
+  chosen_all = refl
 
-  pub chosen-fabric : (fabric : ℕ) → chosen (Fabric fabric) x ≡ eqb x.fabric fabric
+  pub chosen_fabric : (fabric : ℕ) → chosen (Fabric fabric) x ≡ eqb x.fabric fabric
   unfolding chosen
-  chosen-fabric fabric = refl
+  chosen_fabric fabric = refl
 
-  pub chosen-peer : (fabric peer : ℕ) → chosen (Peer fabric peer) x ≡ (eqb x.fabric fabric && eqb x.peer peer)
+  pub chosen_peer : (fabric peer : ℕ) → chosen (Peer fabric peer) x ≡ (eqb x.fabric fabric && eqb x.peer peer)
   unfolding chosen
-  chosen-peer fabric peer = refl
+  chosen_peer fabric peer = refl
 
-  pub chosen-id : (id : ℕ) → chosen (Id id) x ≡ eqb x.id id
+  pub chosen_id : (id : ℕ) → chosen (Id id) x ≡ eqb x.id id
   unfolding chosen
-  chosen-id id = refl
+  chosen_id id = refl
 
-  pub chosen-expired : (now : Instant) → chosen (ExpiredAt now) x ≡ is_over x now
+  pub chosen_expired : (now : Instant) → chosen (ExpiredAt now) x ≡ is_over x now
   unfolding chosen
-  chosen-expired now = refl
+  chosen_expired now = refl

@@ -14,7 +14,7 @@ cut_rules = 0
 
 -- with at most 3 bytes to a line and 2 lines: an empty input, a line, one without its CRLF, an empty line, CR CR LF, a bare LF and a bare CR
 -- at the end, 3 bytes, 4 bytes, 3 lines
-inputs-cut :
+inputs_cut :
     map (texts_of 3 2) (
     ([]) ∷
     (120 ∷ CR ∷ LF ∷ []) ∷
@@ -29,7 +29,7 @@ inputs-cut :
     [])
     ≡ [] ∷ (whole (120 ∷ []) ∷ []) ∷ (whole (120 ∷ []) ∷ []) ∷ (bad ∷ []) ∷ (bad ∷ []) ∷ (bad ∷ []) ∷ (bad ∷ []) ∷ (whole (120 ∷ 120 ∷ 120 ∷ []) ∷ []) ∷ (bad ∷ []) ∷ (whole (120 ∷ []) ∷ whole (120 ∷ []) ∷ []) ∷ []
 unfolding cut_rules
-inputs-cut = refl
+inputs_cut = refl
 
 -- 96 bytes and 97
 longest : judge 96 (replicate 96 120) ≡ whole (replicate 96 120)

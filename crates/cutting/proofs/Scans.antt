@@ -16,7 +16,7 @@ use Rattle.cutting.specs.declared.Stepped.{Stepped}
 use Rattle.cutting.specs.declared.Scanned.{Scanned}
 use Rattle.cutting.specs.declared.Found.{Found}
 use Rattle.cutting.specs.declared.Found.TheVariants.{Nothing, Bad, Whole}
-use Rattle.cutting.proofs.Steps.{scan-ends, scan-goes}
+use Rattle.cutting.proofs.Steps.{scan_ends, scan_goes}
 
 -- what a scan of s is, where i bytes have passed before
 pub record Scan (i : ℕ) (r : Reading) (held s : List ℕ) (t : Scanned) (held' : List ℕ) : Type 0 where
@@ -27,10 +27,10 @@ pub record Scan (i : ℕ) (r : Reading) (held s : List ℕ) (t : Scanned) (held'
   pub after_is : after r held (take (t.used - i) s) ≡ (t.reading, held')
   pub found_is : found r held (take (t.used - i) s) ≡ text_in held' t.found
 
-pub ends-not : (f : Found) → ends_of f ≡ false → f ≡ Nothing
-ends-not Nothing e = refl
-ends-not Bad e = let z : ◌≡◌ {A = ℕ} 0 1 = cc in let o : ⊥ = omega arith in absurd o
-ends-not (Whole n) e = let z : ◌≡◌ {A = ℕ} 0 1 = cc in let o : ⊥ = omega arith in absurd o
+pub ends_not : (f : Found) → ends_of f ≡ false → f ≡ Nothing
+ends_not Nothing e = refl
+ends_not Bad e = let z : ◌≡◌ {A = ℕ} 0 1 = cc in let o : ⊥ = omega arith in absurd o
+ends_not (Whole n) e = let z : ◌≡◌ {A = ℕ} 0 1 = cc in let o : ⊥ = omega arith in absurd o
 
 ends_some : (f : Found) → ends_of f ≡ true → f ≡ Nothing → ⊥
 ends_some f e g = let h : ends_of f ≡ false = ap ends_of g in let z : ◌≡◌ {A = ℕ} 0 1 = cc in omega arith
@@ -66,18 +66,18 @@ module _ (i : ℕ) (r : Reading) (held : List ℕ) (b : ℕ) (s : List ℕ) wher
         moves = λ h. omega (arith, p.from);
         whole = λ g. omega (arith, p.whole g);
         after_is = rw k p.after_is;
-        found_is = rw (k, ends-not t.found e) p.found_is;
+        found_is = rw (k, ends_not t.found e) p.found_is;
       }
 
   by_first : (x : Bool) → ends_of t.found ≡ x
       → Scan (i + 1) t.reading held' s (scan_from (i + 1) t.reading held' s).0 (scan_from (i + 1) t.reading held' s).1
       → Scan i r held (b ∷ s) (scan_from i r held (b ∷ s)).0 (scan_from i r held (b ∷ s)).1
-  by_first true e p = rw (scan-ends i r held b s t held' refl e) (stops e)
-  by_first false e p = rw (scan-goes i r held b s t held' refl e) (goes _ _ e p)
+  by_first true e p = rw (scan_ends i r held b s t held' refl e) (stops e)
+  by_first false e p = rw (scan_goes i r held b s t held' refl e) (goes _ _ e p)
 
-pub scan-from : (i : ℕ) (r : Reading) (held s : List ℕ) → Scan i r held s (scan_from i r held s).0 (scan_from i r held s).1
+pub scan_from_lem : (i : ℕ) (r : Reading) (held s : List ℕ) → Scan i r held s (scan_from i r held s).0 (scan_from i r held s).1
 unfolding scan_from after found
-scan-from i r held [] =
+scan_from_lem i r held [] =
     record {
       from = omega arith;
       within = omega arith;
@@ -86,18 +86,18 @@ scan-from i r held [] =
       after_is = rw take-nil;
       found_is = rw take-nil;
     }
-scan-from i r held (b ∷ s) =
-    by_first i r held b s (ends_of (step_of r held b).0.found) refl (scan-from (i + 1) (step_of r held b).0.reading (step_of r held b).1 s)
+scan_from_lem i r held (b ∷ s) =
+    by_first i r held b s (ends_of (step_of r held b).0.found) refl (scan_from_lem (i + 1) (step_of r held b).0.reading (step_of r held b).1 s)
 
-pub scan-is : (r : Reading) (held s : List ℕ) → Scan 0 r held s (scan_of r held s).0 (scan_of r held s).1
-scan-is r held s = scan-from 0 r held s
+pub scan_is : (r : Reading) (held s : List ℕ) → Scan 0 r held s (scan_of r held s).0 (scan_of r held s).1
+scan_is r held s = scan_from_lem 0 r held s
 
 -- "line number (from 1)": a reading's number counts the lines that were found
 module _ (r : Reading) (held : List ℕ) (b : ℕ) where
-  ending-one : (x y : Bool) → r.bad ≡ x → eqb r.len 0 ≡ y → length (text_in held (ending_of r)) ≡ 1
-  ending-one true y e f = rw e
-  ending-one false true e f = rw (e, f)
-  ending-one false false e f = rw (e, f)
+  ending_one : (x y : Bool) → r.bad ≡ x → eqb r.len 0 ≡ y → length (text_in held (ending_of r)) ≡ 1
+  ending_one true y e f = rw e
+  ending_one false true e f = rw (e, f)
+  ending_one false false e f = rw (e, f)
 
   abbrev Counts : Stepped × List ℕ → Type 0
   Counts p = p.0.reading.number ≡ r.number + length (text_in p.1 p.0.found)
@@ -113,7 +113,7 @@ module _ (r : Reading) (held : List ℕ) (b : ℕ) where
           (cond waits (still_of (spoilt_of r false), held)
           (cond free (still_of (holding_of r (r.len + 1)), set held r.len b) (still_of (spoilt_of r false), held))))))
       go true lf cr waits free = omega arith
-      go false true cr true free = ap (λ (k : ℕ). r.number + k) (sym (ending-one r.bad (eqb r.len 0) refl refl))
+      go false true cr true free = ap (λ (k : ℕ). r.number + k) (sym (ending_one r.bad (eqb r.len 0) refl refl))
       go false true cr false free = omega arith
       go false false true true free = omega arith
       go false false true false free = omega arith
@@ -130,9 +130,9 @@ number_counts r held (b ∷ s) =
     omega (arith, p, q, length-append (text_in (step_of r held b).1 (step_of r held b).0.found) (found (step_of r held b).0.reading (step_of r held b).1 s))
 
 -- and so does the one behind a last line
-pub close-counts : (r : Reading) (held : List ℕ) → (close_of r).reading.number ≡ r.number + length (text_in held (close_of r).found)
+pub close_counts : (r : Reading) (held : List ℕ) → (close_of r).reading.number ≡ r.number + length (text_in held (close_of r).found)
 unfolding close_of
-close-counts r held = go (leb r.most r.number) r.cr r.bad (eqb r.len 0)
+close_counts r held = go (leb r.most r.number) r.cr r.bad (eqb r.len 0)
   where
     go : (stop waits bad none : Bool) →
         let t : Stepped = cond stop (still_of r) (cond waits (ended_of r Bad) (cond bad (ended_of r Bad) (cond none (still_of r) (ended_of r (Whole r.len))))) in

@@ -1,4 +1,4 @@
--- The way through an input byte by byte. No reader has to believe it: `cut-found` of the proofs says that it finds the lines of Cuts.
+-- The way through an input byte by byte. No reader has to believe it: `cut_found` of the proofs says that it finds the lines of Cuts.
 -- Assumes nothing.
 use Rattle.std.specs.Prelude.{Bool, true, false, cond, List, [], ◌∷◌, ◌++◌, ℕ, ◌+◌, eqb, leb, ltb, length, take, set}
 use Rattle.fields.specs.Bytes.{CR, LF}

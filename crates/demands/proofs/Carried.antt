@@ -21,14 +21,14 @@ use Rattle.rules.specs.Numbers.{values_of}
 use Rattle.places.specs.Views.{stored_of, fresh_table}
 use Rattle.demands.specs.Histories.{reply_to, table_after}
 use Rattle.rules.specs.Calls as call
-use Rattle.rules.proofs.Clauses.{statistics-objects, refusal-kept, first-none}
-use Rattle.rules.proofs.Acts.{act-statistics}
-use Rattle.rules.proofs.Refusals.{unrefused-acts}
-use Rattle.rules.proofs.Kept.{always-well-kept}
-use Rattle.rules.proofs.Counts.{places-from-fresh}
-use Rattle.rules.proofs.Instants.{any-answers-next}
-use Rattle.places.proofs.Tidying.{whole-lasts}
-use Rattle.demands.proofs.Histories.{reply-agrees, fresh-whole, history-lasts, history-well, begun, code-states}
+use Rattle.rules.proofs.Clauses.{statistics_objects, refusal_kept, first_none}
+use Rattle.rules.proofs.Acts.{act_statistics}
+use Rattle.rules.proofs.Refusals.{unrefused_acts}
+use Rattle.rules.proofs.Kept.{always_well_kept}
+use Rattle.rules.proofs.Counts.{places_from_fresh}
+use Rattle.rules.proofs.Instants.{any_answers_next}
+use Rattle.places.proofs.Tidying.{whole_lasts}
+use Rattle.demands.proofs.Histories.{reply_agrees, fresh_whole, history_lasts, history_well, begun, code_states}
 
 module _ (capacity : ℕ) (able : capacity_fits capacity ≡ true) (ops : List Op) where
   abbrev pub come : Table
@@ -38,28 +38,28 @@ module _ (capacity : ℕ) (able : capacity_fits capacity ≡ true) (ops : List O
   answered : (op : Op) → (reply_to op come).answer ≡ (step op (run ops (fresh capacity))).answer
   answered op =
       ap (λ o. o.answer)
-      (reply-agrees come (history-lasts whole-lasts fresh-whole ops (fresh_table capacity) (fresh-whole capacity))
-      (history-well ops (fresh_table capacity) (fresh-whole capacity) (begun capacity able [])) op)
-      ∙ ap (λ s. (step op s).answer) (code-states capacity able ops)
+      (reply_agrees come (history_lasts whole_lasts fresh_whole ops (fresh_table capacity) (fresh_whole capacity))
+      (history_well ops (fresh_table capacity) (fresh_whole capacity) (begun capacity able [])) op)
+      ∙ ap (λ s. (step op s).answer) (code_states capacity able ops)
 
   -- "Any reportable equals "next instant ≤ now" when now < 2^64 − 1 or something is stored"
-  pub code-any-is-next : (now : Instant) (events : ℕ) (kind : KeepAlive) → (now.ms < 18446744073709551615) ⊎ (0 < length (stored_of come))
+  pub code_any_is_next : (now : Instant) (events : ℕ) (kind : KeepAlive) → (now.ms < 18446744073709551615) ⊎ (0 < length (stored_of come))
       → (reply_to (call.any_reportable now events kind) come).answer
       ≡ call.yes_no (leb (get_or (values_of (reply_to (call.next_instant events kind) come).answer) 0 0) now.ms)
-  code-any-is-next now events kind h =
-      let held = ap (λ s. length s.stored) (code-states capacity able ops) in
-      let w = any-answers-next capacity ops now events kind able (⊎_elim inl (λ e. inr (omega arith)) h) in
+  code_any_is_next now events kind h =
+      let held = ap (λ s. length s.stored) (code_states capacity able ops) in
+      let w = any_answers_next capacity ops now events kind able (⊎_elim inl (λ e. inr (omega arith)) h) in
       answered (call.any_reportable now events kind)
       ∙ w.1
       ∙ sym (ap (λ a. call.yes_no (leb (get_or (values_of a) 0 0) now.ms)) (answered (call.next_instant events kind) ∙ w.0))
 
   -- "Counted places .. also equal admissions and resumptions less endings in the history.": the first value of statistics
-  pub code-places : (fabric : ℕ) → some is_new ops ≡ false
+  pub code_places : (fabric : ℕ) → some is_new ops ≡ false
       → get_or (values_of (reply_to (call.statistics fabric) come).answer) 0 0
       ≡ admissions ops (fresh capacity) + resumptions ops (fresh capacity) - endings ops (fresh capacity)
-  code-places fabric h =
+  code_places fabric h =
       let s = run ops (fresh capacity) in
-      let served = refusal-kept (call.statistics fabric) s (always-well-kept capacity ops able) ∙ ap first_of (statistics-objects s fabric) ∙ first-none in
+      let served = refusal_kept (call.statistics fabric) s (always_well_kept capacity ops able) ∙ ap first_of (statistics_objects s fabric) ∙ first_none in
       ap (λ a. get_or (values_of a) 0 0)
-      (answered (call.statistics fabric) ∙ ap (λ r. r.answer) (unrefused-acts (call.statistics fabric) s served ∙ act-statistics s fabric))
-      ∙ places-from-fresh capacity ops h
+      (answered (call.statistics fabric) ∙ ap (λ r. r.answer) (unrefused_acts (call.statistics fabric) s served ∙ act_statistics s fabric))
+      ∙ places_from_fresh capacity ops h

@@ -10,23 +10,23 @@ use Rattle.rules.specs.States.{capacity_fits}
 use Rattle.rules.specs.Calls.{Op}
 use Rattle.places.specs.Views.{view, fresh_table}
 use Rattle.original.specs.Likeness.{original_of, state_of}
-use Rattle.original.proofs.SameHistories.{demand-2}
-use Rattle.original.proofs.Back.{nothing-left-out}
+use Rattle.original.proofs.SameHistories.{demand_2}
+use Rattle.original.proofs.Back.{nothing_left_out}
 use Rattle.demands.specs.Histories.{table_after}
 use Rattle.demands.specs.Original.{CodeDemand2, OriginalTellsTable}
-use Rattle.demands.proofs.Histories.{code-answers, code-states, state-tells-table}
+use Rattle.demands.proofs.Histories.{code_answers, code_states, state_tells_table}
 
-pub code-demand-2 : CodeDemand2
-code-demand-2 capacity able ops h =
-    let same = demand-2 capacity able ops (ap (some strays) (sym (code-answers capacity able ops)) ∙ h) in
-    (code-answers capacity able ops ∙ sym same.0, ap original_of (code-states capacity able ops) ∙ sym same.1)
+pub code_demand_2 : CodeDemand2
+code_demand_2 capacity able ops h =
+    let same = demand_2 capacity able ops (ap (some strays) (sym (code_answers capacity able ops)) ∙ h) in
+    (code_answers capacity able ops ∙ sym same.0, ap original_of (code_states capacity able ops) ∙ sym same.1)
 
 -- the state that the table stands for, told by the original's table
 told_back : (c : ℕ) → capacity_fits c ≡ true → (ops : List Op)
     → state_of (original_of (view (table_after ops (fresh_table c)))) ≡ view (table_after ops (fresh_table c))
 told_back c able ops =
-    let same = code-states c able ops in ap (λ s. state_of (original_of s)) same ∙ nothing-left-out c able ops ∙ sym same
+    let same = code_states c able ops in ap (λ s. state_of (original_of s)) same ∙ nothing_left_out c able ops ∙ sym same
 
-pub original-tells-table : OriginalTellsTable
-original-tells-table c d able also ops others e =
-    state-tells-table c d ops others (sym (told_back c able ops) ∙ ap state_of e ∙ told_back d also others)
+pub original_tells_table : OriginalTellsTable
+original_tells_table c d able also ops others e =
+    state_tells_table c d ops others (sym (told_back c able ops) ∙ ap state_of e ∙ told_back d also others)

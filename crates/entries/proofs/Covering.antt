@@ -11,90 +11,90 @@ use Rattle.entries.specs.declared.ChangedAttr.{ChangedAttr}
 use Rattle.entries.specs.declared.Level.TheVariants.{Cluster, Endpoint}
 use Rattle.entries.specs.declared.Coarser.TheVariants.{To, Nothing}
 use Rattle.entries.specs.Paths.{entry, with_identity, all_wild, wild_endpoint, wild_cluster, wild_attr, field_covers, field_matches, covers, matches, over, under, up_to, above, since, candidate}
-use Rattle.lists.proofs.Bools.{split, and_both, and-true, or-either, or_left}
+use Rattle.lists.proofs.Bools.{split, and_both, and_true, or_either, or_left}
 
 module _ (wild : ℕ) where
   -- the field is wild or equal: that neither is wild adds nothing
-  pub field-same : (a b : ℕ) → field_matches wild a b ≡ field_covers wild a b
+  pub field_same : (a b : ℕ) → field_matches wild a b ≡ field_covers wild a b
   unfolding field_matches field_covers
-  field-same a b =
+  field_same a b =
       split (eqb a wild)
       (λ t. rw t)
       (λ t. split (eqb b wild)
       (λ u. rw (t, u) (ne_eqb a b (λ e. eqb-false a wild t (e ∙ eqb-true b wild u))))
       (λ u. rw (t, u)))
 
-  field-self : (a : ℕ) → field_matches wild a a ≡ true
+  field_self : (a : ℕ) → field_matches wild a a ≡ true
   unfolding field_matches
-  field-self a = split (eqb a wild) (λ t. rw t) (λ t. rw t (eq-eqb a a refl))
+  field_self a = split (eqb a wild) (λ t. rw t) (λ t. rw t (eq-eqb a a refl))
 
-  field-trans : (a b c : ℕ) → field_matches wild a b ≡ true → field_matches wild b c ≡ true → field_matches wild a c ≡ true
+  field_trans : (a b c : ℕ) → field_matches wild a b ≡ true → field_matches wild b c ≡ true → field_matches wild a c ≡ true
   unfolding field_matches
-  field-trans a b c h k =
+  field_trans a b c h k =
       ⊎_elim
       (λ e. or_left (eqb a c) e)
       (λ e. let same : a ≡ b = eqb-true a b e in rw same k)
-      (or-either (eqb a wild) (eqb a b) h)
+      (or_either (eqb a wild) (eqb a b) h)
 
 -- an entry matches a path exactly where it covers it
-pub matches-covers : (a b : ChangedAttr) → matches a b ≡ covers a b
+pub matches_covers : (a b : ChangedAttr) → matches a b ≡ covers a b
 unfolding matches covers
-matches-covers a b =
+matches_covers a b =
     rw (
-      field-same wild_endpoint a.endpoint b.endpoint,
-      field-same wild_cluster a.cluster b.cluster,
-      field-same wild_attr a.attr b.attr,
+      field_same wild_endpoint a.endpoint b.endpoint,
+      field_same wild_cluster a.cluster b.cluster,
+      field_same wild_attr a.attr b.attr,
     )
 
 pub covers_self : (a : ChangedAttr) → covers a a ≡ true
 unfolding matches
 covers_self a =
-    sym (matches-covers a a)
-    ∙ and-true (field-self wild_endpoint a.endpoint) (and-true (field-self wild_cluster a.cluster) (field-self wild_attr a.attr))
+    sym (matches_covers a a)
+    ∙ and_true (field_self wild_endpoint a.endpoint) (and_true (field_self wild_cluster a.cluster) (field_self wild_attr a.attr))
 
-matches-trans : (a b c : ChangedAttr) → matches a b ≡ true → matches b c ≡ true → matches a c ≡ true
+matches_trans : (a b c : ChangedAttr) → matches a b ≡ true → matches b c ≡ true → matches a c ≡ true
 unfolding matches
-matches-trans a b c h k =
+matches_trans a b c h k =
     let p = and_both _ _ h in
     let q = and_both _ _ k in
     let p' = and_both _ _ p.1 in
     let q' = and_both _ _ q.1 in
-    and-true (field-trans wild_endpoint a.endpoint b.endpoint c.endpoint p.0 q.0)
-    (and-true (field-trans wild_cluster a.cluster b.cluster c.cluster p'.0 q'.0)
-    (field-trans wild_attr a.attr b.attr c.attr p'.1 q'.1))
+    and_true (field_trans wild_endpoint a.endpoint b.endpoint c.endpoint p.0 q.0)
+    (and_true (field_trans wild_cluster a.cluster b.cluster c.cluster p'.0 q'.0)
+    (field_trans wild_attr a.attr b.attr c.attr p'.1 q'.1))
 
-pub covers-trans : (a b c : ChangedAttr) → covers a b ≡ true → covers b c ≡ true → covers a c ≡ true
-covers-trans a b c h k = sym (matches-covers a c) ∙ matches-trans a b c (matches-covers a b ∙ h) (matches-covers b c ∙ k)
+pub covers_trans : (a b c : ChangedAttr) → covers a b ≡ true → covers b c ≡ true → covers a c ≡ true
+covers_trans a b c h k = sym (matches_covers a c) ∙ matches_trans a b c (matches_covers a b ∙ h) (matches_covers b c ∙ k)
 
 -- the all-wild entry covers everything
-pub wild-covers : (k : ℕ) (q : ChangedAttr) → covers (all_wild k) q ≡ true
+pub wild_covers : (k : ℕ) (q : ChangedAttr) → covers (all_wild k) q ≡ true
 unfolding covers field_covers
-wild-covers k q = refl
+wild_covers k q = refl
 
 -- ---- what a scan is after, as tests on the entry
 
 module _ (n x : ChangedAttr) where
-  pub over-covers : over n x ≡ covers x n
+  pub over_covers : over n x ≡ covers x n
   unfolding over
-  over-covers = refl
+  over_covers = refl
 
-  pub under-covers : under n x ≡ covers n x
+  pub under_covers : under n x ≡ covers n x
   unfolding under
-  under-covers = refl
+  under_covers = refl
 
   -- a path is changed since an identity by the entries that cover it and are newer
-  pub since-covers : since n x ≡ (ltb n.identity x.identity && covers x n)
+  pub since_covers : since n x ≡ (ltb n.identity x.identity && covers x n)
   unfolding since
-  since-covers = rw (matches-covers x n)
+  since_covers = rw (matches_covers x n)
 
 -- covering is a matter of the paths: the identities are no part of them
-pub path-covers : (j k : ℕ) (a b : ChangedAttr) → covers (with_identity j a) (with_identity k b) ≡ covers a b
+pub path_covers : (j k : ℕ) (a b : ChangedAttr) → covers (with_identity j a) (with_identity k b) ≡ covers a b
 unfolding covers
-path-covers j k a b = refl
+path_covers j k a b = refl
 
-pub up_to-at : (t : ℕ) (x : ChangedAttr) → up_to t x ≡ leb x.identity t
+pub up_to_at : (t : ℕ) (x : ChangedAttr) → up_to t x ≡ leb x.identity t
 unfolding up_to
-up_to-at t x = refl
+up_to_at t x = refl
 
 pub above_at : (s : ℕ) (x : ChangedAttr) → above s x ≡ ltb s x.identity
 unfolding above
@@ -102,9 +102,9 @@ above_at s x = refl
 
 -- ---- the definitions as tests on fields
 
-pub field-covers-at : (wild a b : ℕ) → field_covers wild a b ≡ (eqb a wild || (not (eqb b wild) && eqb a b))
+pub field_covers_at : (wild a b : ℕ) → field_covers wild a b ≡ (eqb a wild || (not (eqb b wild) && eqb a b))
 unfolding field_covers
-field-covers-at wild a b = refl
+field_covers_at wild a b = refl
 
 pub covers_at : (a b : ChangedAttr)
     → covers a b
@@ -113,9 +113,9 @@ pub covers_at : (a b : ChangedAttr)
 unfolding covers
 covers_at a b = refl
 
-pub field-matches-at : (wild a b : ℕ) → field_matches wild a b ≡ (eqb a wild || eqb a b)
+pub field_matches_at : (wild a b : ℕ) → field_matches wild a b ≡ (eqb a wild || eqb a b)
 unfolding field_matches
-field-matches-at wild a b = refl
+field_matches_at wild a b = refl
 
 pub since_at : (path x : ChangedAttr)
     → since path x
@@ -125,13 +125,13 @@ pub since_at : (path x : ChangedAttr)
 unfolding since matches
 since_at path x = refl
 
-pub candidate-cluster : (x : ChangedAttr)
+pub candidate_cluster : (x : ChangedAttr)
     → candidate Cluster x
     ≡ cond (eqb x.endpoint wild_endpoint || eqb x.cluster wild_cluster) Nothing (To (entry x.endpoint x.cluster wild_attr 0))
 unfolding candidate
-candidate-cluster x = refl
+candidate_cluster x = refl
 
-pub candidate-endpoint : (x : ChangedAttr)
+pub candidate_endpoint : (x : ChangedAttr)
     → candidate Endpoint x ≡ cond (eqb x.endpoint wild_endpoint) Nothing (To (entry x.endpoint wild_cluster wild_attr 0))
 unfolding candidate
-candidate-endpoint x = refl
+candidate_endpoint x = refl

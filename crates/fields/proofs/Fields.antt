@@ -34,33 +34,33 @@ unfoldable tidy : ℕ → ℕ → List ℕ → Bool
 tidy v i [] = not (eqb i 0)
 tidy v i (b ∷ bs) = not (zero_led v i) && (digit b && tidy (v * 10 + (b - zero_digit)) (i + 1) bs)
 
-tidy-on : (v i : ℕ) (bs : List ℕ) → 0 < v → 0 < i → tidy v i bs ≡ digits bs
+tidy_on : (v i : ℕ) (bs : List ℕ) → 0 < v → 0 < i → tidy v i bs ≡ digits bs
 unfolding tidy digits
-tidy-on v i [] h k = rw (ne_eqb i 0 (λ z. omega arith))
-tidy-on v i (b ∷ bs) h k =
-    rw (ne_eqb v 0 (λ z. omega arith), tidy-on (v * 10 + (b - zero_digit)) (i + 1) bs (omega arith) (omega arith))
+tidy_on v i [] h k = rw (ne_eqb i 0 (λ z. omega arith))
+tidy_on v i (b ∷ bs) h k =
+    rw (ne_eqb v 0 (λ z. omega arith), tidy_on (v * 10 + (b - zero_digit)) (i + 1) bs (omega arith) (omega arith))
 
 -- behind a first digit: nothing where that is 0, and digits where it is not
-tidy-second : (b c : ℕ) (bs : List ℕ) (z l : Bool) → eqb b zero_digit ≡ z → leb zero_digit b ≡ l
+tidy_second : (b c : ℕ) (bs : List ℕ) (z l : Bool) → eqb b zero_digit ≡ z → leb zero_digit b ≡ l
     → (digit b && tidy (0 * 10 + (b - zero_digit)) 1 (c ∷ bs)) ≡ (digit b && not z && digits (c ∷ bs))
 unfolding tidy
-tidy-second b c bs true l e k = rw (eqb-true b zero_digit e)
-tidy-second b c bs false false e k = rw k
-tidy-second b c bs false true e k =
+tidy_second b c bs true l e k = rw (eqb-true b zero_digit e)
+tidy_second b c bs false false e k = rw k
+tidy_second b c bs false true e k =
     let n = eqb-false b zero_digit e in let g = leb-true zero_digit b k in
     let h : 0 < 0 * 10 + (b - zero_digit) = lt_of_le-ne (omega arith) (λ z. n (omega arith)) in
-    ap (λ (t : Bool). digit b && t) (tidy-on (0 * 10 + (b - zero_digit)) 1 (c ∷ bs) h (omega arith)) ∙ rw and-true
+    ap (λ (t : Bool). digit b && t) (tidy_on (0 * 10 + (b - zero_digit)) 1 (c ∷ bs) h (omega arith)) ∙ rw and-true
 
-tidy-is : (bs : List ℕ) → tidy 0 0 bs ≡ decimal bs
+tidy_is : (bs : List ℕ) → tidy 0 0 bs ≡ decimal bs
 unfolding tidy decimal
-tidy-is [] = refl
-tidy-is (b ∷ []) = rw and-true
-tidy-is (b ∷ c ∷ bs) = tidy-second b c bs (eqb b zero_digit) (leb zero_digit b) refl refl
+tidy_is [] = refl
+tidy_is (b ∷ []) = rw and-true
+tidy_is (b ∷ c ∷ bs) = tidy_second b c bs (eqb b zero_digit) (leb zero_digit b) refl refl
 
-number-grows : (v : ℕ) (bs : List ℕ) → v ≤ number_from v bs
+number_grows : (v : ℕ) (bs : List ℕ) → v ≤ number_from v bs
 unfolding number_from
-number-grows v [] = omega arith
-number-grows v (b ∷ bs) = let h = number-grows (v * 10 + (b - zero_digit)) bs in omega arith
+number_grows v [] = omega arith
+number_grows v (b ∷ bs) = let h = number_grows (v * 10 + (b - zero_digit)) bs in omega arith
 
 -- what is made of the bytes f before the comma, where n bytes are left
 abbrev judged : ℕ → ℕ → ℕ → List ℕ → ℕ → Field
@@ -80,33 +80,33 @@ module _ (most v i b : ℕ) (bs : List ℕ) where
   abbrev Read-on : Type 0
   Read-on = w ≤ most → field_from most w (i + 1) bs ≡ judged most w (i + 1) (front bs) (length bs)
 
-  by-digit : (z d l : Bool) → not (zero_led v i) ≡ z → digit b ≡ d → leb w most ≡ l → Read-on
+  by_digit : (z d l : Bool) → not (zero_led v i) ≡ z → digit b ≡ d → leb w most ≡ l → Read-on
       → go_on (λ (x : ℕ). field_from most x (i + 1) bs) (grow_of most v i b) ≡ judged most v i (b ∷ front bs) (length (b ∷ bs))
   unfolding tidy grow_of number_from
-  by-digit false d l e f g ih = rw (e)
-  by-digit true false l e f g ih = rw (e, f)
-  by-digit true true false e f g ih =
-      let k = leb-false w most g in let m = number-grows w (front bs) in
+  by_digit false d l e f g ih = rw (e)
+  by_digit true false l e f g ih = rw (e, f)
+  by_digit true true false e f g ih =
+      let k = leb-false w most g in let m = number_grows w (front bs) in
       let n : leb (number_from w (front bs)) most ≡ false = lt-leb (number_from w (front bs)) most (omega arith) in
       rw (e, f, g, n, and-false)
-  by-digit true true true e f g ih =
+  by_digit true true true e f g ih =
       let k : i + 1 + length (front bs) + 1 ≡ i + suc (length (front bs)) + 1 = omega arith in
       rw (e, f, g, ← k, leb-suc-suc (suc (length (front bs))) (length bs)) (ih (leb-true w most g))
 
-  by-comma : (t : Bool) → eqb b comma ≡ t → v ≤ most → Read-on → field_from most v i (b ∷ bs) ≡ judged most v i (front (b ∷ bs)) (length (b ∷ bs))
+  by_comma : (t : Bool) → eqb b comma ≡ t → v ≤ most → Read-on → field_from most v i (b ∷ bs) ≡ judged most v i (front (b ∷ bs)) (length (b ∷ bs))
   unfolding tidy field_from front number_from
-  by-comma true e h ih = rw (e, le-leb v most h, lt-ltb 0 (suc (length bs)) (omega arith), add-zero) (some (eqb i 0) (More v (i + 1)))
-  by-comma false e h ih = rw e (by-digit (not (zero_led v i)) (digit b) (leb w most) refl refl refl ih)
+  by_comma true e h ih = rw (e, le-leb v most h, lt-ltb 0 (suc (length bs)) (omega arith), add-zero) (some (eqb i 0) (More v (i + 1)))
+  by_comma false e h ih = rw e (by_digit (not (zero_led v i)) (digit b) (leb w most) refl refl refl ih)
 
-field-tidy : (most v i : ℕ) (s : List ℕ) → v ≤ most → field_from most v i s ≡ judged most v i (front s) (length s)
+field_tidy : (most v i : ℕ) (s : List ℕ) → v ≤ most → field_from most v i s ≡ judged most v i (front s) (length s)
 unfolding tidy field_from front number_from
-field-tidy most v i [] h = rw (le-leb v most h) (some (eqb i 0) (Last v))
-field-tidy most v i (b ∷ bs) h =
-    by-comma most v i b bs (eqb b comma) refl h (λ k. field-tidy most (v * 10 + (b - zero_digit)) (i + 1) bs k)
+field_tidy most v i [] h = rw (le-leb v most h) (some (eqb i 0) (Last v))
+field_tidy most v i (b ∷ bs) h =
+    by_comma most v i b bs (eqb b comma) refl h (λ k. field_tidy most (v * 10 + (b - zero_digit)) (i + 1) bs k)
 
 pub field_is : (most : ℕ) (s : List ℕ) → field_from most 0 0 s ≡ field_of most s
 unfolding field_of
-field_is most s = field-tidy most 0 0 s (omega arith) ∙ rw (tidy-is (front s), zero-add)
+field_is most s = field_tidy most 0 0 s (omega arith) ∙ rw (tidy_is (front s), zero-add)
 
 -- the value that a field holds, and where the part behind its comma starts
 abbrev pub value_of : Field → ℕ
@@ -128,9 +128,9 @@ module _ (most v k n : ℕ) where
   bounded true true true e f = let h = leb-true v most e in let g = ltb-true k n f in omega arith
 
 -- a field is within its width, and the part behind its comma begins in the line
-pub field-bounds : (most : ℕ) (s : List ℕ) → (value_of (field_of most s) ≤ most) × (next_of (field_of most s) ≤ length s)
+pub field_bounds : (most : ℕ) (s : List ℕ) → (value_of (field_of most s) ≤ most) × (next_of (field_of most s) ≤ length s)
 unfolding field_of
-field-bounds most s =
+field_bounds most s =
     bounded most (number_of (front s)) (length (front s)) (length s) (decimal (front s)) (leb (number_of (front s)) most)
     (ltb (length (front s)) (length s))
     refl

@@ -15,78 +15,78 @@ use Rattle.fields.specs.Rows.{places, none, numbers_by, numbers_from, numbers_of
 use Rattle.fields.specs.declared.Field.{Field}
 use Rattle.fields.specs.declared.Field.TheVariants.{More, Last, Bad}
 use Rattle.fields.specs.declared.Numbers.{Numbers}
-use Rattle.fields.proofs.Fields.{value_of, next_of, field-bounds}
+use Rattle.fields.proofs.Fields.{value_of, next_of, field_bounds}
 
 zeros : (n k : ℕ) → ◌≡◌ {A = ℕ} (get_or (replicate n 0) k 0) 0
 zeros zero k = refl
 zeros (suc n) zero = refl
 zeros (suc n) (suc k) = zeros n k
 
-zeros-fit : (ws : List ℕ) → Fit ws (replicate places 0)
-zeros-fit ws k = omega (arith, zeros places k)
+zeros_fit : (ws : List ℕ) → Fit ws (replicate places 0)
+zeros_fit ws k = omega (arith, zeros places k)
 
-at-most-set : (v : List ℕ) (j k x b : ℕ) → get_or v k 0 ≤ b → (k ≡ j → x ≤ b) → get_or (set v j x) k 0 ≤ b
-at-most-set [] j k x b h q = h
-at-most-set (a ∷ l) zero zero x b h q = q refl
-at-most-set (a ∷ l) zero (suc k) x b h q = h
-at-most-set (a ∷ l) (suc j) zero x b h q = h
-at-most-set (a ∷ l) (suc j) (suc k) x b h q = at-most-set l j k x b h (λ e. q (ap suc e))
+at_most_set : (v : List ℕ) (j k x b : ℕ) → get_or v k 0 ≤ b → (k ≡ j → x ≤ b) → get_or (set v j x) k 0 ≤ b
+at_most_set [] j k x b h q = h
+at_most_set (a ∷ l) zero zero x b h q = q refl
+at_most_set (a ∷ l) zero (suc k) x b h q = h
+at_most_set (a ∷ l) (suc j) zero x b h q = h
+at_most_set (a ∷ l) (suc j) (suc k) x b h q = at_most_set l j k x b h (λ e. q (ap suc e))
 
 -- the widths ws stand from the place j on among `full`
 abbrev Stand : List ℕ → ℕ → List ℕ → Type 0
 Stand ws j full = (k : ℕ) → get_or ws k 0 ≡ get_or full (j + k) 0
 
 module _ (full : List ℕ) where
-  fit-set : (v : List ℕ) (j x : ℕ) → Fit full v → x ≤ get_or full j 0 → Fit full (set v j x)
-  fit-set v j x f h k = at-most-set v j k x (get_or full k 0) (f k) (λ e. rw e h)
+  fit_set : (v : List ℕ) (j x : ℕ) → Fit full v → x ≤ get_or full j 0 → Fit full (set v j x)
+  fit_set v j x f h k = at_most_set v j k x (get_or full k 0) (f k) (λ e. rw e h)
 
   by_field : (go : ℕ → ℕ → Numbers) (ws v : List ℕ) (j : ℕ) (f : Field) → Fit full v → value_of f ≤ get_or full j 0
       → ((x next : ℕ) → x ≤ get_or full j 0 → Fit full (go x next).at)
       → Fit full (numbers_by go ws v j f).at
-  by_field go ws v j Bad fit h on = zeros-fit full
+  by_field go ws v j Bad fit h on = zeros_fit full
   by_field go ws v j (Last x) fit h on = last (eqb (length ws) 0)
     where
       last : (t : Bool) → Fit full (cond t (record { all = true; at = set v j x }) none).at
-      last true = fit-set v j x fit h
-      last false = zeros-fit full
+      last true = fit_set v j x fit h
+      last false = zeros_fit full
   by_field go ws v j (More x next) fit h on = on x next h
 
-  from-fit : (ws v : List ℕ) (j : ℕ) (s : List ℕ) → Stand ws j full → Fit full v → Fit full (numbers_from ws v j s).at
+  from_fit : (ws v : List ℕ) (j : ℕ) (s : List ℕ) → Stand ws j full → Fit full v → Fit full (numbers_from ws v j s).at
   unfolding numbers_from
-  from-fit [] v j s stand fit = zeros-fit full
-  from-fit (w ∷ ws) v j s stand fit =
+  from_fit [] v j s stand fit = zeros_fit full
+  from_fit (w ∷ ws) v j s stand fit =
       let e : w ≡ get_or full j 0 = stand 0 ∙ ap (λ (n : ℕ). get_or full n 0) (add-zero j) in
-      by_field _ ws v j (field_of w s) fit (rw (← e) (field-bounds w s).0)
-      λ x next h. from-fit ws (set v j x) (j + 1) (drop next s)
+      by_field _ ws v j (field_of w s) fit (rw (← e) (field_bounds w s).0)
+      λ x next h. from_fit ws (set v j x) (j + 1) (drop next s)
       (λ k. let n : j + suc k ≡ j + 1 + k = omega arith in stand (suc k) ∙ ap (λ (i : ℕ). get_or full i 0) n)
-      (fit-set v j x fit h)
+      (fit_set v j x fit h)
 
-of-fit : (ws s : List ℕ) → Fit ws (numbers_of ws s).at
+of_fit : (ws s : List ℕ) → Fit ws (numbers_of ws s).at
 unfolding numbers_of
-of-fit ws s = go (leb (length ws) places)
+of_fit ws s = go (leb (length ws) places)
   where
     go : (t : Bool) → Fit ws (cond t (numbers_from ws (replicate places 0) 0 s) none).at
-    go true = from-fit ws ws (replicate places 0) 0 s (λ k. rw zero-add) (zeros-fit ws)
-    go false = zeros-fit ws
+    go true = from_fit ws ws (replicate places 0) 0 s (λ k. rw zero-add) (zeros_fit ws)
+    go false = zeros_fit ws
 
 -- each number is within its width
 pub numbers_fit : (ns : Numbers) (ws s : List ℕ) → ns ≡ numbers_of ws s → Fit ws ns.at
-numbers_fit ns ws s e = rw e (of-fit ws s)
+numbers_fit ns ws s e = rw e (of_fit ws s)
 
 -- nothing is no field, and so no line's rest
-pub numbers-nothing : (ws : List ℕ) → numbers_of ws [] ≡ none
+pub numbers_nothing : (ws : List ℕ) → numbers_of ws [] ≡ none
 unfolding numbers_of numbers_from field_of front decimal
-numbers-nothing [] = refl
-numbers-nothing (w ∷ ws) = go (leb (length (w ∷ ws)) places)
+numbers_nothing [] = refl
+numbers_nothing (w ∷ ws) = go (leb (length (w ∷ ws)) places)
   where
     go : (t : Bool) → cond t none none ≡ none
     go true = refl
     go false = refl
 
 -- the part behind a field's comma begins in the line
-pub part-begins : (w at v next : ℕ) (s : List ℕ) (f : Field) → at ≤ length s → f ≡ field_of w (drop at s) → f ≡ More v next → at + next ≤ length s
-part-begins w at v next s f h e g =
-    let k : next_of (field_of w (drop at s)) ≤ length (drop at s) = (field-bounds w (drop at s)).1 in
+pub part_begins : (w at v next : ℕ) (s : List ℕ) (f : Field) → at ≤ length s → f ≡ field_of w (drop at s) → f ≡ More v next → at + next ≤ length s
+part_begins w at v next s f h e g =
+    let k : next_of (field_of w (drop at s)) ≤ length (drop at s) = (field_bounds w (drop at s)).1 in
     omega (arith, rw (← e, g, length-drop) at k)
 
 -- whether a width is left behind the place j
@@ -97,14 +97,14 @@ pub some_left : (j n : ℕ) → j < n → (j + 1 ≡ n → ⊥) → eqb (n - (j 
 some_left j n h ne = ne_eqb (n - (j + 1)) 0 (λ z. ne (omega arith))
 
 -- where no width is asked for, nothing is read
-pub numbers-unasked : (s : List ℕ) → numbers_of [] s ≡ none
+pub numbers_unasked : (s : List ℕ) → numbers_of [] s ≡ none
 unfolding numbers_of numbers_from
-numbers-unasked s = refl
+numbers_unasked s = refl
 
 -- few enough widths are read from the first place on
-pub numbers-begin : (ws s : List ℕ) → leb (length ws) places ≡ true → numbers_of ws s ≡ numbers_from ws (replicate places 0) 0 s
+pub numbers_begin : (ws s : List ℕ) → leb (length ws) places ≡ true → numbers_of ws s ≡ numbers_from ws (replicate places 0) 0 s
 unfolding numbers_of
-numbers-begin ws s h = rw h
+numbers_begin ws s h = rw h
 
 -- a field for the first width, and a last field for the last one
 pub numbers_more : (w : ℕ) (ws v : List ℕ) (j x next : ℕ) (s : List ℕ) → field_of w s ≡ More x next
@@ -112,7 +112,7 @@ pub numbers_more : (w : ℕ) (ws v : List ℕ) (j x next : ℕ) (s : List ℕ) �
 unfolding numbers_from
 numbers_more w ws v j x next s e = rw e
 
-pub numbers-last : (w : ℕ) (v : List ℕ) (j x : ℕ) (s : List ℕ) → field_of w s ≡ Last x
+pub numbers_last : (w : ℕ) (v : List ℕ) (j x : ℕ) (s : List ℕ) → field_of w s ≡ Last x
     → numbers_from (w ∷ []) v j s ≡ record { all = true; at = set v j x }
 unfolding numbers_from
-numbers-last w v j x s e = rw e
+numbers_last w v j x s e = rw e

@@ -23,68 +23,68 @@ use Rattle.heard.specs.Hearing.{is_note, notes_in, hands_out, ends_heard, acts}
 use Rattle.heard.specs.Playing.{Between, noting, purging, as_call, between, Turn, with_events, turned, play, plain_outcome, odd, notes_during, allowed_by}
 use Rattle.rules.specs.Calls as call
 use Rattle.lists.proofs.Bools.{split, clash, and_both, or_left, or_right}
-use Rattle.lists.proofs.Searches.{some-append, some-weaken}
-use Rattle.lists.proofs.Counts.{some-rest, some-nil, some-cons, count-nil, count-cons, some-count, count-some, one-no, count-taken}
-use Rattle.changes.proofs.Promises.{reached-any}
-use Rattle.subscription.proofs.Spacing.{changed-reportable}
-use Rattle.rules.proofs.Clauses.{has-id-is}
-use Rattle.rules.proofs.Acts.{ready-is, act-note, act-purge, act-complete, run_none, run_more}
-use Rattle.rules.proofs.Refusals.{step-either}
-use Rattle.rules.proofs.Sound.{kept-sound}
+use Rattle.lists.proofs.Searches.{some_append, some_weaken}
+use Rattle.lists.proofs.Counts.{some_rest, some_nil, some_cons, count_nil, count_cons, some_count, count_some, one_no, count_taken}
+use Rattle.changes.proofs.Promises.{reached_any}
+use Rattle.subscription.proofs.Spacing.{changed_reportable}
+use Rattle.rules.proofs.Clauses.{has_id_is}
+use Rattle.rules.proofs.Acts.{ready_is, act_note, act_purge, act_complete, run_none, run_more}
+use Rattle.rules.proofs.Refusals.{step_either}
+use Rattle.rules.proofs.Sound.{kept_sound}
 use Rattle.rules.proofs.Lives.{lives}
-use Rattle.rules.proofs.Turns.{report-step}
-use Rattle.heard.proofs.Sane.{Sane, sane-step}
-use Rattle.heard.proofs.Standing.{stands-step}
-use Rattle.heard.proofs.Tracked.{told, told-less, untold-step}
+use Rattle.rules.proofs.Turns.{report_step}
+use Rattle.heard.proofs.Sane.{Sane, sane_step}
+use Rattle.heard.proofs.Standing.{stands_step}
+use Rattle.heard.proofs.Tracked.{told, told_less, untold_step}
 use Rattle.heard.proofs.Histories.{Tracked}
-use Rattle.heard.proofs.Turning.{one-between, same-between, first-stored, ended}
-use Rattle.heard.proofs.Waiting.{Begun, waiting, turn-begun, others-wait, counts, fine, plain-good}
-use Rattle.heard.proofs.Playing.{first_plain, play-goes-on, play-cut}
+use Rattle.heard.proofs.Turning.{one_between, same_between, first_stored, ended}
+use Rattle.heard.proofs.Waiting.{Begun, waiting, turn_begun, others_wait, counts, fine, plain_good}
+use Rattle.heard.proofs.Playing.{first_plain, play_goes_on, play_cut}
 
-stored-lives : (i : ℕ) (s : State) → some (has_id i) s.stored ≡ true → id_live i s ≡ true
-stored-lives i s h = some-append (has_id i) s.stored s.opens ∙ or_left _ h
+stored_lives : (i : ℕ) (s : State) → some (has_id i) s.stored ≡ true → id_live i s ≡ true
+stored_lives i s h = some_append (has_id i) s.stored s.opens ∙ or_left _ h
 
 module _ (i k : ℕ) (q : ChangedAttr) (pos : 0 < k) (since : Bool) where
   -- whoever waits, and has not heard of the note, is reportable
-  waiting-ready : (at : Settings) (s : State) → Tracked i k q since s → some (waiting at.now i) s.stored ≡ true → some (ready at s) s.stored ≡ true
-  waiting-ready at s t h =
+  waiting_ready : (at : Settings) (s : State) → Tracked i k q since s → some (waiting at.now i) s.stored ≡ true → some (ready at s) s.stored ≡ true
+  waiting_ready at s t h =
       let none = t.untold in
-      some-rest (waiting at.now i) (told i k since) (ready at s) s.stored
+      some_rest (waiting at.now i) (told i k since) (ready at s) s.stored
       (λ x w free. let m = and_both (has_id i x) (allowed_by at.now x) w in
-      let less = leb-false k x.seen (told-less i k since x m.0 free).0 in
-      ready-is at s x
-      ∙ changed-reportable x at.now (changed_for s x) at.events at.kind at.all m.1
-      (reached-any s.log q k x.seen less t.stands.still))
+      let less = leb-false k x.seen (told_less i k since x m.0 free).0 in
+      ready_is at s x
+      ∙ changed_reportable x at.now (changed_for s x) at.events at.kind at.all m.1
+      (reached_any s.log q k x.seen less t.stands.still))
       h (omega arith)
 
   -- a call that hands i out to nobody and leaves it live
-  tracked-quiet : (n : ℕ) (op : Op) (s : State) → is_round op ≡ false → n + one (is_note op) < 18446744073709551615 → Sane n s
+  tracked_quiet : (n : ℕ) (op : Op) (s : State) → is_round op ≡ false → n + one (is_note op) < 18446744073709551615 → Sane n s
       → id_live i s ≡ true → id_live i (step op s).state ≡ true → hands_out i op s ≡ false → ends_heard i op ≡ false → Tracked i k q since s → Tracked i k q since (step op s).state
-  tracked-quiet n op s plain low h live after none other t =
+  tracked_quiet n op s plain low h live after none other t =
       let few = h.few in
       let quiet : (since && (acts (refusal op s) && ends_heard i op)) ≡ false =
       rw other (ap (λ b. since && b) (and-false (acts (refusal op s))) ∙ and-false since) in
       record {
-        stands = stands-step i k q pos since s h.well live t.untold t.stands op plain after (omega arith);
+        stands = stands_step i k q pos since s h.well live t.untold t.stands op plain after (omega arith);
         untold = ap (λ b. lives (told i k b) (step op s).state) (sym (ap (λ b. since || b) none ∙ or-false since))
-            ∙ untold-step i k pos since op s plain live quiet t.untold;
+            ∙ untold_step i k pos since op s plain live quiet t.untold;
       }
 
   -- what happens in between hands nobody out
-  quiet-between : (b : Between) (s : State) → hands_out i (as_call b) s ≡ false
-  quiet-between (noting e c a) s =
-      step-either (λ r. some (eqb i) (handed_id r.answer) ≡ false) (call.note e c a) s (λ _. rw (act-note s e c a) (some-nil (eqb i)))
-      (λ why _. some-nil (eqb i))
-  quiet-between purging s =
-      step-either (λ r. some (eqb i) (handed_id r.answer) ≡ false) call.purge s (λ _. rw (act-purge s) (some-nil (eqb i))) (λ why _. some-nil (eqb i))
+  quiet_between : (b : Between) (s : State) → hands_out i (as_call b) s ≡ false
+  quiet_between (noting e c a) s =
+      step_either (λ r. some (eqb i) (handed_id r.answer) ≡ false) (call.note e c a) s (λ _. rw (act_note s e c a) (some_nil (eqb i)))
+      (λ why _. some_nil (eqb i))
+  quiet_between purging s =
+      step_either (λ r. some (eqb i) (handed_id r.answer) ≡ false) call.purge s (λ _. rw (act_purge s) (some_nil (eqb i))) (λ why _. some_nil (eqb i))
 
   never_ends : (b : Between) → ends_heard i (as_call b) ≡ false
   never_ends (noting e c a) = refl
   never_ends purging = refl
 
-  plain-between : (b : Between) → is_round (as_call b) ≡ false
-  plain-between (noting e c a) = refl
-  plain-between purging = refl
+  plain_between : (b : Between) → is_round (as_call b) ≡ false
+  plain_between (noting e c a) = refl
+  plain_between purging = refl
 
   -- tracked, and sane, with i stored
   record Going (n : ℕ) (s : State) : Type 0 where
@@ -92,18 +92,18 @@ module _ (i k : ℕ) (q : ChangedAttr) (pos : 0 < k) (since : Bool) where
     tracked : Tracked i k q since s
     there : some (has_id i) s.stored ≡ true
 
-  going-between : (n : ℕ) (bs : List Between) (s : State) → n + notes_in (map as_call bs) < 18446744073709551615 → Going n s
+  going_between : (n : ℕ) (bs : List Between) (s : State) → n + notes_in (map as_call bs) < 18446744073709551615 → Going n s
       → Going (n + notes_in (map as_call bs)) (between bs s)
-  going-between n [] s low g = rw (run_none s, count-nil is_note) (rw (add-zero n) g)
-  going-between n (b ∷ bs) s low g =
-      let all = count-cons is_note (as_call b) (map as_call bs) in
-      let there = ap (some (has_id i)) (one-between b s).stored ∙ g.there in
+  going_between n [] s low g = rw (run_none s, count_nil is_note) (rw (add-zero n) g)
+  going_between n (b ∷ bs) s low g =
+      let all = count_cons is_note (as_call b) (map as_call bs) in
+      let there = ap (some (has_id i)) (one_between b s).stored ∙ g.there in
       rw (run_more (as_call b) (map as_call bs) s, all, ← add_assoc n (one (is_note (as_call b))) (notes_in (map as_call bs)))
-      (going-between (n + one (is_note (as_call b))) bs (step (as_call b) s).state (omega arith)
+      (going_between (n + one (is_note (as_call b))) bs (step (as_call b) s).state (omega arith)
       (record {
-        sane = sane-step n (as_call b) s (plain-between b) (omega arith) g.sane;
-        tracked = tracked-quiet n (as_call b) s (plain-between b) (omega arith) g.sane (stored-lives i s g.there)
-            (stored-lives i (step (as_call b) s).state there) (quiet-between b s) (never_ends b) g.tracked;
+        sane = sane_step n (as_call b) s (plain_between b) (omega arith) g.sane;
+        tracked = tracked_quiet n (as_call b) s (plain_between b) (omega arith) g.sane (stored_lives i s g.there)
+            (stored_lives i (step (as_call b) s).state there) (quiet_between b s) (never_ends b) g.tracked;
         there = there;
       }))
 
@@ -127,84 +127,84 @@ module _ (i k : ℕ) (q : ChangedAttr) (pos : 0 < k) (since : Bool) where
     abbrev s3 : State
     s3 = (step (call.complete x.id u.outcome) s2).state
 
-    not-this : has_id i x ≡ false
-    not-this = has-id-is i x ∙ other
+    not_this : has_id i x ≡ false
+    not_this = has_id_is i x ∙ other
 
-    reported-is : step (call.report at') s ≡ outcome (call.handed x.id x.rx) s1
-    reported-is = report-step at' 0 s (kept-sound s b.well) b.shut found
+    reported_is : step (call.report at') s ≡ outcome (call.handed x.id x.rx) s1
+    reported_is = report_step at' 0 s (kept_sound s b.well) b.shut found
 
-    first-there : some (has_id i) s.stored ≡ true → some (has_id i) s1.stored ≡ true
-    first-there there =
-        let m = count-some (has_id i) s.stored there in
-        ap (some (has_id i)) (first-stored at' s b.well found u (plain-good u h) (fine at time s b u h found))
-        ∙ some-count (has_id i) _ (omega (arith, count-taken (has_id i) (ready at' s) blank s.stored found, one-no not-this))
+    first_there : some (has_id i) s.stored ≡ true → some (has_id i) s1.stored ≡ true
+    first_there there =
+        let m = count_some (has_id i) s.stored there in
+        ap (some (has_id i)) (first_stored at' s b.well found u (plain_good u h) (fine at time s b u h found))
+        ∙ some_count (has_id i) _ (omega (arith, count_taken (has_id i) (ready at' s) blank s.stored found, one_no not_this))
 
-    last-there : some (has_id i) s.stored ≡ true → some (has_id i) s3.stored ≡ true
-    last-there there =
-        let m = count-some (has_id i) s.stored there in
-        let same = ap (count (has_id i)) (same-between u.after s3).stored in
-        some-count (has_id i) s3.stored (omega (arith, counts at time s b u h found (has_id i), one-no not-this))
+    last_there : some (has_id i) s.stored ≡ true → some (has_id i) s3.stored ≡ true
+    last_there there =
+        let m = count_some (has_id i) s.stored there in
+        let same = ap (count (has_id i)) (same_between u.after s3).stored in
+        some_count (has_id i) s3.stored (omega (arith, counts at time s b u h found (has_id i), one_no not_this))
 
-    ended-quiet : hands_out i (call.complete x.id u.outcome) s2 ≡ false
-    ended-quiet =
+    ended_quiet : hands_out i (call.complete x.id u.outcome) s2 ≡ false
+    ended_quiet =
         ap (λ r. some (eqb i) (handed_id r.answer))
-        (ended at' s b.well found u (plain-good u h) (fine at time s b u h found) ∙ act-complete s2 x.id u.outcome)
-        ∙ some-nil (eqb i)
+        (ended at' s b.well found u (plain_good u h) (fine at time s b u h found) ∙ act_complete s2 x.id u.outcome)
+        ∙ some_nil (eqb i)
 
-    report-quiet : hands_out i (call.report at') s ≡ false
-    report-quiet =
-        ap (λ r. some (eqb i) (handed_id r.answer)) reported-is
-        ∙ some-cons (eqb i) x.id []
-        ∙ rw (some-nil (eqb i), ne_eqb i x.id (λ e. clash (eq-eqb x.id i (sym e)) other))
+    report_quiet : hands_out i (call.report at') s ≡ false
+    report_quiet =
+        ap (λ r. some (eqb i) (handed_id r.answer)) reported_is
+        ∙ some_cons (eqb i) x.id []
+        ∙ rw (some_nil (eqb i), ne_eqb i x.id (λ e. clash (eq-eqb x.id i (sym e)) other))
 
-    turn-going : (n : ℕ) → n + (notes_in (map as_call u.during) + notes_in (map as_call u.after)) < 18446744073709551615 → Going n s
+    turn_going : (n : ℕ) → n + (notes_in (map as_call u.during) + notes_in (map as_call u.after)) < 18446744073709551615 → Going n s
         → Going (n + (notes_in (map as_call u.during) + notes_in (map as_call u.after))) (turned x.id u s1)
-    turn-going n low g =
+    turn_going n low g =
         let d = notes_in (map as_call u.during) in
         let op = call.complete x.id u.outcome in
-        let there = first-there g.there in
-        let state = ap (λ r. r.state) reported-is in
+        let there = first_there g.there in
+        let state = ap (λ r. r.state) reported_is in
         let first : Going n s1 =
         record {
-          sane = rw (← state, ← add-zero n) (sane-step n (call.report at') s refl (omega arith) g.sane);
+          sane = rw (← state, ← add-zero n) (sane_step n (call.report at') s refl (omega arith) g.sane);
           tracked = rw (← state)
-              (tracked-quiet n (call.report at') s refl (omega arith) g.sane (stored-lives i s g.there)
-              (ap (id_live i) state ∙ stored-lives i s1 there) report-quiet refl g.tracked);
+              (tracked_quiet n (call.report at') s refl (omega arith) g.sane (stored_lives i s g.there)
+              (ap (id_live i) state ∙ stored_lives i s1 there) report_quiet refl g.tracked);
           there = there;
         } in
-        let second = going-between n u.during s1 (omega arith) first in
+        let second = going_between n u.during s1 (omega arith) first in
         let third : Going (n + d) s3 =
         record {
-          sane = rw (← add-zero (n + d)) (sane-step (n + d) op s2 refl (omega arith) second.sane);
-          tracked = tracked-quiet (n + d) op s2 refl (omega arith) second.sane (stored-lives i s2 second.there)
-              (stored-lives i s3 (last-there g.there)) ended-quiet (ap (λ c. c && leb u.outcome 1) other) second.tracked;
-          there = last-there g.there;
+          sane = rw (← add-zero (n + d)) (sane_step (n + d) op s2 refl (omega arith) second.sane);
+          tracked = tracked_quiet (n + d) op s2 refl (omega arith) second.sane (stored_lives i s2 second.there)
+              (stored_lives i s3 (last_there g.there)) ended_quiet (ap (λ c. c && leb u.outcome 1) other) second.tracked;
+          there = last_there g.there;
         } in
-        rw (← add_assoc n d (notes_in (map as_call u.after))) (going-between (n + d) u.after s3 (omega arith) third)
+        rw (← add_assoc n d (notes_in (map as_call u.after))) (going_between (n + d) u.after s3 (omega arith) third)
 
   -- ---- the round
 
-  waiting-there : (now : Instant) (l : List Subscription) → 1 ≤ count (waiting now i) l → some (has_id i) l ≡ true
-  waiting-there now l h = some-weaken (waiting now i) (has_id i) l (λ x t. (and_both (has_id i x) (allowed_by now x) t).0) (some-count (waiting now i) l h)
+  waiting_there : (now : Instant) (l : List Subscription) → 1 ≤ count (waiting now i) l → some (has_id i) l ≡ true
+  waiting_there now l h = some_weaken (waiting now i) (has_id i) l (λ x t. (and_both (has_id i x) (allowed_by now x) t).0) (some_count (waiting now i) l h)
 
-  pub silent-heard : (at : Settings) → at.now.ms + 65535000 ≤ last_instant.ms → (n : ℕ) (us : List Turn) (s : State) → Begun s → some odd us ≡ false
+  pub silent_heard : (at : Settings) → at.now.ms + 65535000 ≤ last_instant.ms → (n : ℕ) (us : List Turn) (s : State) → Begun s → some odd us ≡ false
       → n + notes_during us < 18446744073709551615 → Sane n s → Tracked i k q since s → 1 ≤ count (waiting at.now i) s.stored
       → (play at us s).silent ≡ true → some (λ y. eqb y i) (play at us s).out ≡ true
-  silent-heard at time n [] s b plain low sane t waits silent =
-      absurd (clash silent (play-cut at s b.well b.shut (waiting-ready at s t (some-count (waiting at.now i) s.stored waits))))
-  silent-heard at time n (u ∷ us) s b plain low sane t waits silent =
+  silent_heard at time n [] s b plain low sane t waits silent =
+      absurd (clash silent (play_cut at s b.well b.shut (waiting_ready at s t (some_count (waiting at.now i) s.stored waits))))
+  silent_heard at time n (u ∷ us) s b plain low sane t waits silent =
       let w = first_plain at time u us plain in
       let at' = with_events at u.events in
       let id = (next_up at' s).id in
       let next = turned id u (reported at' s).state in
-      let found = waiting-ready at' s t (some-count (waiting at.now i) s.stored waits) in
-      let more = play-goes-on at s b.well b.shut us u found in
+      let found = waiting_ready at' s t (some_count (waiting at.now i) s.stored waits) in
+      let more = play_goes_on at s b.well b.shut us u found in
       rw more
-      (some-cons (λ y. eqb y i) id (play at us next).out
+      (some_cons (λ y. eqb y i) id (play at us next).out
       ∙ split (eqb id i)
       (λ e. or_left _ e)
-      (λ e. let g = turn-going at time s b u w.0 found e n (omega arith) (record { sane = sane; tracked = t; there = waiting-there at.now s.stored waits }) in
-      let still = others-wait at time s b u w.0 found i e in
+      (λ e. let g = turn_going at time s b u w.0 found e n (omega arith) (record { sane = sane; tracked = t; there = waiting_there at.now s.stored waits }) in
+      let still = others_wait at time s b u w.0 found i e in
       or_right (eqb id i)
-      (silent-heard at time (n + (notes_in (map as_call u.during) + notes_in (map as_call u.after))) us next (turn-begun at time s b u w.0 found) w.1
+      (silent_heard at time (n + (notes_in (map as_call u.during) + notes_in (map as_call u.after))) us next (turn_begun at time s b u w.0 found) w.1
       (omega arith) g.sane g.tracked (omega arith) (sym (ap (λ p. p.silent) more) ∙ silent))))

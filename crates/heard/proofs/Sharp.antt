@@ -27,29 +27,29 @@ alone = call.add request 0 (instant 1000) ∷ call.complete 1 0 ∷ []
 abbrev sent : List Op
 sent = call.report (at 2000) ∷ call.complete 1 0 ∷ call.note 1 1 1 ∷ call.report (at 4000) ∷ []
 
-pub heard-is-heard : (id_live 1 (run alone (fresh 2)) ≡ true)
+pub heard_is_heard : (id_live 1 (run alone (fresh 2)) ≡ true)
     × (unheard 1 sent (noted 2 alone 3 6 0) ≡ false)
     × ((step (call.attribute 1 3 6 0) (run sent (noted 2 alone 3 6 0))).answer ≡ call.yes_no false)
 unfolding all_rules calls_of calls_for plainly unheard_by
-heard-is-heard = (refl, refl, refl)
+heard_is_heard = (refl, refl, refl)
 
 -- one that was not live when the note was made is not told of it
 abbrev late : List Op
 late = call.add request 0 (instant 1000) ∷ call.complete 1 0 ∷ call.note 1 1 1 ∷ call.report (at 4000) ∷ []
 
-pub came-too-late : (id_live 1 (run [] (fresh 2)) ≡ false)
+pub came_too_late : (id_live 1 (run [] (fresh 2)) ≡ false)
     × ((step (call.attribute 1 3 6 0) (run late (noted 2 [] 3 6 0))).answer ≡ call.yes_no false)
 unfolding all_rules
-came-too-late = (refl, refl)
+came_too_late = (refl, refl)
 
 -- nor is any of a path that is not under the note
 abbrev waits : List Op
 waits = call.report (at 2000) ∷ []
 
-pub not-under-it : (unheard 1 waits (noted 2 alone 3 6 0) ≡ true)
+pub not_under_it : (unheard 1 waits (noted 2 alone 3 6 0) ≡ true)
     × ((step (call.attribute 1 3 6 1) (run waits (noted 2 alone 3 6 0))).answer ≡ call.yes_no false)
 unfolding all_rules calls_of calls_for plainly unheard_by
-not-under-it = (refl, refl)
+not_under_it = (refl, refl)
 
 -- ---- the round
 
@@ -65,42 +65,42 @@ stored shortest longest =
     (fresh 2)
 
 -- one millisecond past the time bound: the gate overflows, and the same one is handed out again
-pub past-the-bound : (18446744073644016616 + 65535000 ≡ 18446744073709551615 + 1)
+pub past_the_bound : (18446744073644016616 + 65535000 ≡ 18446744073709551615 + 1)
     × (report_open (stored 65535 65535) ≡ false)
     × (some cramped (stored 65535 65535).stored ≡ false)
     × (some odd (twice 0) ≡ false)
     × ((play (at 18446744073644016616) (twice 0) (stored 65535 65535)).out ≡ (1 ∷ 1 ∷ []))
 unfolding all_rules play
-past-the-bound = (refl, refl, refl, refl, refl)
+past_the_bound = (refl, refl, refl, refl, refl)
 
 -- at the bound it is not
-pub at-the-bound : (play (at 18446744073644016615) (twice 0) (stored 65535 65535)).out ≡ (1 ∷ [])
+pub at_the_bound : (play (at 18446744073644016615) (twice 0) (stored 65535 65535)).out ≡ (1 ∷ [])
 unfolding all_rules play
-at-the-bound = refl
+at_the_bound = refl
 
 -- an outcome of unsent leaves it free to speak
-pub unsent-twice : (some cramped (stored 1 60).stored ≡ false)
+pub unsent_twice : (some cramped (stored 1 60).stored ≡ false)
     × (some odd (twice 1) ≡ true)
     × ((play (at 61000) (twice 1) (stored 1 60)).out ≡ (1 ∷ 1 ∷ []))
 unfolding all_rules play
-unsent-twice = (refl, refl, refl)
+unsent_twice = (refl, refl, refl)
 
 -- a minimum interval of 0 does
-pub interval-of-nothing : (some cramped (stored 0 60).stored ≡ true)
+pub interval_of_nothing : (some cramped (stored 0 60).stored ≡ true)
     × (some odd (twice 0) ≡ false)
     × ((play (at 61000) (twice 0) (stored 0 60)).out ≡ (1 ∷ 1 ∷ []))
 unfolding all_rules play
-interval-of-nothing = (refl, refl, refl)
+interval_of_nothing = (refl, refl, refl)
 
 -- with a report open at its start it neither hands out nor falls silent
 abbrev opened : State
 opened = run (call.report (at 2000) ∷ []) (noted 2 before 3 6 0)
 
-pub open-at-the-start : (report_open opened ≡ true)
+pub open_at_the_start : (report_open opened ≡ true)
     × ((play (at 2000) (bare 0 0 ∷ bare 0 0 ∷ bare 0 0 ∷ []) opened).out ≡ [])
     × ((play (at 2000) (bare 0 0 ∷ bare 0 0 ∷ bare 0 0 ∷ []) opened).silent ≡ false)
 unfolding all_rules play
-open-at-the-start = (refl, refl, refl)
+open_at_the_start = (refl, refl, refl)
 
 -- cut short it has not handed out everyone
 pub cut_short : ((play (at 2000) (bare 0 0 ∷ []) (noted 2 before 3 6 0)).out ≡ (1 ∷ []))
@@ -109,13 +109,13 @@ unfolding all_rules play
 cut_short = (refl, refl)
 
 -- whoever may not speak yet is not handed out
-pub not-allowed-yet : ((play (at 1999) (bare 0 0 ∷ []) (noted 2 before 3 6 0)).out ≡ [])
+pub not_allowed_yet : ((play (at 1999) (bare 0 0 ∷ []) (noted 2 before 3 6 0)).out ≡ [])
     × ((play (at 1999) (bare 0 0 ∷ []) (noted 2 before 3 6 0)).silent ≡ true)
 unfolding all_rules play
-not-allowed-yet = (refl, refl)
+not_allowed_yet = (refl, refl)
 
 -- nor is anybody whom no unheard note concerns
-pub nothing-owed : ((play (at 2000) (bare 0 0 ∷ []) (stored 1 60)).out ≡ [])
+pub nothing_owed : ((play (at 2000) (bare 0 0 ∷ []) (stored 1 60)).out ≡ [])
     × ((play (at 2000) (bare 0 0 ∷ []) (stored 1 60)).silent ≡ true)
 unfolding all_rules play
-nothing-owed = (refl, refl)
+nothing_owed = (refl, refl)

@@ -20,8 +20,8 @@ use Rattle.heard.specs.Playing.{Turn, noting, bare, play}
 use Rattle.heard.specs.Demand.{noted}
 use Rattle.rules.specs.Calls as call
 use Rattle.rules.proofs.Computing.{all_rules}
-use Rattle.heard.proofs.Unheard.{unheard-stays-yes}
-use Rattle.heard.proofs.Rounds.{round-nobody-twice, round-hears}
+use Rattle.heard.proofs.Unheard.{unheard_stays_yes}
+use Rattle.heard.proofs.Rounds.{round_nobody_twice, round_hears}
 
 -- a screen that wants a report every minute, and no more than one a second
 abbrev pub request : Request
@@ -40,20 +40,20 @@ abbrev since : List Op
 since =
     call.round (at 2000) (2 ∷ []) (9 ∷ []) ∷ call.note 1 1 1 ∷ call.complete 9 0 ∷ call.report (at 4000) ∷ []
 
-pub yes-to-the-second : (step (call.attribute 2 3 6 0) (run since (noted 2 before 3 6 0))).answer ≡ call.yes_no true
+pub yes_to_the_second : (step (call.attribute 2 3 6 0) (run since (noted 2 before 3 6 0))).answer ≡ call.yes_no true
 unfolding all_rules calls_of calls_for plainly unheard_by
-yes-to-the-second = unheard-stays-yes 2 before since 3 6 0 2 3 6 0 refl (omega arith) refl refl refl refl
+yes_to_the_second = unheard_stays_yes 2 before since 3 6 0 2 3 6 0 refl (omega arith) refl refl refl refl
 
 -- a round with a note in its first report: the first is sent, the second fails, and it is silent
 abbrev turns : List Turn
 turns = record { events = 0; outcome = 0; during = noting 9 9 9 ∷ []; after = [] } ∷ bare 0 3 ∷ bare 0 0 ∷ []
 
-pub second-handed-out : some (λ y. eqb y 2) (play (at 5000) turns (noted 2 before 3 6 0)).out ≡ true
+pub second_handed_out : some (λ y. eqb y 2) (play (at 5000) turns (noted 2 before 3 6 0)).out ≡ true
 unfolding all_rules calls_of calls_for plainly unheard_by play
-second-handed-out =
-    round-hears 2 before [] 3 6 0 2 (at 5000) turns refl (omega arith) refl refl
+second_handed_out =
+    round_hears 2 before [] 3 6 0 2 (at 5000) turns refl (omega arith) refl refl
     (record { early = omega arith; shut = refl; apart = refl }) refl refl refl
 
-pub each-once : (play (at 5000) turns (run before (fresh 2))).silent ≡ true
+pub each_once : (play (at 5000) turns (run before (fresh 2))).silent ≡ true
 unfolding all_rules play
-each-once = (round-nobody-twice 2 before (at 5000) turns refl (record { early = omega arith; shut = refl; apart = refl }) refl).2 (omega arith)
+each_once = (round_nobody_twice 2 before (at 5000) turns refl (record { early = omega arith; shut = refl; apart = refl }) refl).2 (omega arith)

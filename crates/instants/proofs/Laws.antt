@@ -10,19 +10,19 @@ use Rattle.instants.specs.declared.Later.TheVariants.{At, Overflow}
 use Rattle.instants.specs.Instants.{instant, last_instant, later, or_else}
 
 -- up to the last instant a sum is the plain sum
-pub later-within : (from : Instant) (secs : ℕ) → from.ms + secs * 1000 ≤ last_instant.ms → later from secs ≡ At (instant (from.ms + secs * 1000))
+pub later_within : (from : Instant) (secs : ℕ) → from.ms + secs * 1000 ≤ last_instant.ms → later from secs ≡ At (instant (from.ms + secs * 1000))
 unfolding later
-later-within from secs within = rw (le-leb _ _ within, later)
+later_within from secs within = rw (le-leb _ _ within, later)
 
 -- past it there is none
-pub later-past : (from : Instant) (secs : ℕ) → last_instant.ms < from.ms + secs * 1000 → later from secs ≡ Overflow
+pub later_past : (from : Instant) (secs : ℕ) → last_instant.ms < from.ms + secs * 1000 → later from secs ≡ Overflow
 unfolding later
-later-past from secs past = rw (lt-leb _ _ past, later)
+later_past from secs past = rw (lt-leb _ _ past, later)
 
 -- a sum, or another instant in its place, is never past the last instant
-pub else-most : (from other : Instant) (secs : ℕ) → other.ms ≤ last_instant.ms → (or_else (later from secs) other).ms ≤ last_instant.ms
+pub else_most : (from other : Instant) (secs : ℕ) → other.ms ≤ last_instant.ms → (or_else (later from secs) other).ms ≤ last_instant.ms
 unfolding later
-else-most from other secs h = go (leb (from.ms + secs * 1000) last_instant.ms) refl
+else_most from other secs h = go (leb (from.ms + secs * 1000) last_instant.ms) refl
   where
     go : (b : Bool) → leb (from.ms + secs * 1000) last_instant.ms ≡ b
         → (or_else (cond b (At (instant (from.ms + secs * 1000))) Overflow) other).ms ≤ last_instant.ms

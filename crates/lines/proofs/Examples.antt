@@ -31,7 +31,7 @@ unfolding line_rules
 lines_new = refl
 
 -- new,2,   new,"2"   new, 2   new,+2   add,1000,1,7,1,60,0,0   done,1,0
-lines-spelt :
+lines_spelt :
     map line_of (
     (n ∷ e ∷ w ∷ comma ∷ 50 ∷ comma ∷ []) ∷
     (n ∷ e ∷ w ∷ comma ∷ 34 ∷ 50 ∷ 34 ∷ []) ∷
@@ -42,10 +42,10 @@ lines-spelt :
     [])
     ≡ Bad ∷ Bad ∷ Bad ∷ Bad ∷ Add 1000 1 7 1 60 0 0 ∷ Done 1 0 ∷ []
 unfolding line_rules
-lines-spelt = refl
+lines_spelt = refl
 
 -- done,1   done,4294967296,0   wake,0,1   wake,0,2   nwe,2
-lines-wide :
+lines_wide :
     map line_of (
     (d ∷ o ∷ n ∷ e ∷ comma ∷ 49 ∷ []) ∷
     (d ∷ o ∷ n ∷ e ∷ comma ∷ 52 ∷ 50 ∷ 57 ∷ 52 ∷ 57 ∷ 54 ∷ 55 ∷ 50 ∷ 57 ∷ 54 ∷ comma ∷ 48 ∷ []) ∷
@@ -55,4 +55,4 @@ lines-wide :
     [])
     ≡ Bad ∷ Bad ∷ Wake 0 true ∷ Bad ∷ Bad ∷ []
 unfolding line_rules
-lines-wide = refl
+lines_wide = refl

@@ -7,7 +7,7 @@ use Prim.Native.Nat.{ℕ}
 use lib.ListN.{length, drop}
 use Rattle.fields.specs.Rows.{numbers_of}
 use Rattle.fields.specs.declared.Numbers.{Numbers}
-use Rattle.fields.proofs.Rows.{numbers-unasked}
+use Rattle.fields.proofs.Rows.{numbers_unasked}
 use Rattle.lines.specs.Lines.{word_of, begins, first_of, kind_of, widths_of, made, line_of}
 use Rattle.lines.specs.declared.Kind.{Kind}
 use Rattle.lines.specs.declared.Kind.TheVariants.{Other}
@@ -26,18 +26,18 @@ line_made s kind k ns l e f g h = h ∙ ap (made kind) g ∙ rw (sym e ∙ f)
 
 pub line_other : (s : List ℕ) (k : Kind) → k ≡ kind_of s → k ≡ Other → Bad ≡ line_of s
 unfolding line_of
-line_other s k e f = rw (sym e ∙ f, numbers-unasked)
+line_other s k e f = rw (sym e ∙ f, numbers_unasked)
 
 -- a kind is the first whose word begins the line
-pub first-none : (s : List ℕ) → Other ≡ first_of [] s
+pub first_none : (s : List ℕ) → Other ≡ first_of [] s
 unfolding first_of
-first-none s = refl
+first_none s = refl
 
 module _ (s : List ℕ) (kind : Kind) (kinds : List Kind) where
-  pub first-here : begins (word_of kind) s ≡ true → kind ≡ first_of (kind ∷ kinds) s
+  pub first_here : begins (word_of kind) s ≡ true → kind ≡ first_of (kind ∷ kinds) s
   unfolding first_of
-  first-here e = rw e
+  first_here e = rw e
 
-  pub first-later : begins (word_of kind) s ≡ false → (k : Kind) → k ≡ first_of kinds s → k ≡ first_of (kind ∷ kinds) s
+  pub first_later : begins (word_of kind) s ≡ false → (k : Kind) → k ≡ first_of kinds s → k ≡ first_of (kind ∷ kinds) s
   unfolding first_of
-  first-later e k h = rw e h
+  first_later e k h = rw e h

@@ -18,108 +18,108 @@ full f l h = sym (length-map l f) ∙ h
 
 module _ {A : Type 0} where
   -- the whole of an array from a place on
-  pub slice-rest : (f t : ℕ) (l : List A) → length l ≡ t → slice f t l ≡ drop f l
-  slice-rest f t l e = rw (take_all t l (omega arith))
+  pub slice_rest : (f t : ℕ) (l : List A) → length l ≡ t → slice f t l ≡ drop f l
+  slice_rest f t l e = rw (take_all t l (omega arith))
 
   -- the element at f is the next of those from f on
-  pub slice-next : (f t : ℕ) (l : List A) (d : A) → f < t → t ≤ length l → slice f t l ≡ get_or l f d ∷ slice (f + 1) t l
-  slice-next f t l d h k = rw add-one (slice-cons f t l d h k)
+  pub slice_next : (f t : ℕ) (l : List A) (d : A) → f < t → t ≤ length l → slice f t l ≡ get_or l f d ∷ slice (f + 1) t l
+  slice_next f t l d h k = rw add-one (slice-cons f t l d h k)
 
   -- past the last there is none
-  pub slice-done : (f t : ℕ) (l : List A) → f ≤ t → t ≤ f → slice f t l ≡ []
-  slice-done f t l h k = let e : f ≡ t = omega arith in rw e (slice_empty t l)
+  pub slice_done : (f t : ℕ) (l : List A) → f ≤ t → t ≤ f → slice f t l ≡ []
+  slice_done f t l h k = let e : f ≡ t = omega arith in rw e (slice_empty t l)
 
-  last-at : (x : A) (l : List A) (k : ℕ) (d : A) → k ≤ length l → last_of x (take k l) ≡ get_or (x ∷ l) k d
+  last_at : (x : A) (l : List A) (k : ℕ) (d : A) → k ≤ length l → last_of x (take k l) ≡ get_or (x ∷ l) k d
   unfolding last_of
-  last-at x l zero d h = refl
-  last-at x [] (suc k) d h = absurd (not-suc-le-zero h)
-  last-at x (y ∷ ys) (suc k) d h = last-at y ys k d (le_of_suc-le-suc h)
+  last_at x l zero d h = refl
+  last_at x [] (suc k) d h = absurd (not-suc-le-zero h)
+  last_at x (y ∷ ys) (suc k) d h = last_at y ys k d (le_of_suc-le-suc h)
 
-  init-at : (x : A) (l : List A) (k : ℕ) → k ≤ length l → init_of x (take k l) ≡ take k (x ∷ l)
+  init_at : (x : A) (l : List A) (k : ℕ) → k ≤ length l → init_of x (take k l) ≡ take k (x ∷ l)
   unfolding init_of
-  init-at x l zero h = refl
-  init-at x [] (suc k) h = absurd (not-suc-le-zero h)
-  init-at x (y ∷ ys) (suc k) h = ap (λ l. x ∷ l) (init-at y ys k (le_of_suc-le-suc h))
+  init_at x l zero h = refl
+  init_at x [] (suc k) h = absurd (not-suc-le-zero h)
+  init_at x (y ∷ ys) (suc k) h = ap (λ l. x ∷ l) (init_at y ys k (le_of_suc-le-suc h))
 
   -- the first of a list goes, and its k-th, the last that is held, fills the hole
-  front-filled : (k : ℕ) (l : List A) (x d : A) → k ≤ length l → take k (get_or (x ∷ l) k d ∷ l) ≡ refilled (take k l)
+  front_filled : (k : ℕ) (l : List A) (x d : A) → k ≤ length l → take k (get_or (x ∷ l) k d ∷ l) ≡ refilled (take k l)
   unfolding refilled
-  front-filled zero l x d h = refl
-  front-filled (suc k) [] x d h = absurd (not-suc-le-zero h)
-  front-filled (suc k) (y ∷ ys) x d h =
-      rw (last-at y ys k d (le_of_suc-le-suc h), init-at y ys k (le_of_suc-le-suc h))
+  front_filled zero l x d h = refl
+  front_filled (suc k) [] x d h = absurd (not-suc-le-zero h)
+  front_filled (suc k) (y ∷ ys) x d h =
+      rw (last_at y ys k d (le_of_suc-le-suc h), init_at y ys k (le_of_suc-le-suc h))
 
-  hole-filled : (i m : ℕ) (l : List A) (d : A) → i ≤ m → m < length l → slice i m (set l i (get_or l m d)) ≡ refilled (slice (suc i) (suc m) l)
-  hole-filled i m [] d h k = absurd (not-suc-le-zero k)
-  hole-filled zero m (x ∷ xs) d h k = front-filled m xs x d (le_of_suc-le-suc k)
-  hole-filled (suc i) zero (x ∷ xs) d h k = absurd (not-suc-le-zero h)
-  hole-filled (suc i) (suc m) (x ∷ xs) d h k = hole-filled i m xs d (le_of_suc-le-suc h) (le_of_suc-le-suc k)
+  hole_filled : (i m : ℕ) (l : List A) (d : A) → i ≤ m → m < length l → slice i m (set l i (get_or l m d)) ≡ refilled (slice (suc i) (suc m) l)
+  hole_filled i m [] d h k = absurd (not-suc-le-zero k)
+  hole_filled zero m (x ∷ xs) d h k = front_filled m xs x d (le_of_suc-le-suc k)
+  hole_filled (suc i) zero (x ∷ xs) d h k = absurd (not-suc-le-zero h)
+  hole_filled (suc i) (suc m) (x ∷ xs) d h k = hole_filled i m xs d (le_of_suc-le-suc h) (le_of_suc-le-suc k)
 
   -- swap removal in the array: the last held place is copied to i, and one place fewer is held
-  pub swap-removed : (i n : ℕ) (l : List A) (d : A) → i < n → n ≤ length l
+  pub swap_removed_lem : (i n : ℕ) (l : List A) (d : A) → i < n → n ≤ length l
       → slice i (n - 1) (set l i (get_or l (n - 1) d)) ≡ refilled (slice (i + 1) n l)
-  swap-removed i n l d h k =
+  swap_removed_lem i n l d h k =
       let e : n ≡ suc (n - 1) = omega arith in
-      rw (hole-filled i (n - 1) l d (omega arith) (omega arith), add-one, ← e)
+      rw (hole_filled i (n - 1) l d (omega arith) (omega arith), add-one, ← e)
 
   module _ (i n : ℕ) (l : List A) (d : A) (room : n ≤ length l) where
-    pub least-next : (f : A → ℕ) (m : ℕ) → i < n → least_by f m (slice i n l) ≡ min (f (get_or l i d)) (least_by f m (slice (i + 1) n l))
+    pub least_next : (f : A → ℕ) (m : ℕ) → i < n → least_by f m (slice i n l) ≡ min (f (get_or l i d)) (least_by f m (slice (i + 1) n l))
     unfolding least_by
-    least-next f m h = rw (slice-next i n l d h room, least_by)
+    least_next f m h = rw (slice_next i n l d h room, least_by)
 
-    pub least-done : (f : A → ℕ) (m : ℕ) → i ≤ n → n ≤ i → least_by f m (slice i n l) ≡ m
+    pub least_done : (f : A → ℕ) (m : ℕ) → i ≤ n → n ≤ i → least_by f m (slice i n l) ≡ m
     unfolding least_by
-    least-done f m h k = rw (slice-done i n l h k)
+    least_done f m h k = rw (slice_done i n l h k)
 
   module _ (p : A → Bool) (i n : ℕ) (l : List A) (d : A) (room : n ≤ length l) where
     pub count_next : i < n → count p (slice i n l) ≡ one (p (get_or l i d)) + count p (slice (i + 1) n l)
     unfolding count
-    count_next h = rw (slice-next i n l d h room, count)
+    count_next h = rw (slice_next i n l d h room, count)
 
-    pub first-here : i < n → p (get_or l i d) ≡ true → first p (slice i n l) ≡ 0
+    pub first_here : i < n → p (get_or l i d) ≡ true → first p (slice i n l) ≡ 0
     unfolding first
-    first-here h e = rw (slice-next i n l d h room, e, first)
+    first_here h e = rw (slice_next i n l d h room, e, first)
 
     pub first_next : i < n → p (get_or l i d) ≡ false → first p (slice i n l) ≡ suc (first p (slice (i + 1) n l))
     unfolding first
-    first_next h e = rw (slice-next i n l d h room, e, first)
+    first_next h e = rw (slice_next i n l d h room, e, first)
 
     pub first_done : i ≤ n → n ≤ i → first p (slice i n l) ≡ 0
     unfolding first
-    first_done h k = rw (slice-done i n l h k)
+    first_done h k = rw (slice_done i n l h k)
 
-    pub count-done : i ≤ n → n ≤ i → count p (slice i n l) ≡ 0
+    pub count_done : i ≤ n → n ≤ i → count p (slice i n l) ≡ 0
     unfolding count
-    count-done h k = rw (slice-done i n l h k)
+    count_done h k = rw (slice_done i n l h k)
 
-    pub scan-out : i < n → p (get_or l i d) ≡ true → scanned p i n l ≡ scanned p i (n - 1) (set l i (get_or l (n - 1) d))
+    pub scan_out : i < n → p (get_or l i d) ≡ true → scanned p i n l ≡ scanned p i (n - 1) (set l i (get_or l (n - 1) d))
     unfolding scanned sweep_for
-    scan-out h e =
+    scan_out h e =
         let f : n - i ≡ suc (n - 1 - i) = omega arith in
-        rw (f, slice-next i n l d h room, e, sweep_for)
-        (rw (swap-removed i n l d h room, take-set-le i l i (get_or l (n - 1) d) (omega arith)))
+        rw (f, slice_next i n l d h room, e, sweep_for)
+        (rw (swap_removed_lem i n l d h room, take-set-le i l i (get_or l (n - 1) d) (omega arith)))
 
-    pub scan-kept : i < n → p (get_or l i d) ≡ false → scanned p i n l ≡ scanned p (i + 1) n l
+    pub scan_kept : i < n → p (get_or l i d) ≡ false → scanned p i n l ≡ scanned p (i + 1) n l
     unfolding scanned sweep_for
-    scan-kept h e =
+    scan_kept h e =
         let f : n - i ≡ suc (n - (i + 1)) = omega arith in
         let w : i < length l = omega arith in
-        rw (f, slice-next i n l d h room, e, sweep_for)
+        rw (f, slice_next i n l d h room, e, sweep_for)
         (rw (add-one, take-suc l i d w, append_snoc))
 
   module _ (p : A → Bool) (n : ℕ) (l : List A) (room : n ≤ length l) where
-    pub scan-start : sweep p (take n l) ≡ scanned p 0 n l
+    pub scan_start : sweep p (take n l) ≡ scanned p 0 n l
     unfolding scanned sweep
-    scan-start = rw (length-take-le n l room) (let e : n - 0 ≡ n = omega arith in rw e)
+    scan_start = rw (length-take-le n l room) (let e : n - 0 ≡ n = omega arith in rw e)
 
-    pub scan-done : (i : ℕ) → i ≤ n → n ≤ i → scanned p i n l ≡ take n l
+    pub scan_done : (i : ℕ) → i ≤ n → n ≤ i → scanned p i n l ≡ take n l
     unfolding scanned sweep_for
-    scan-done i h k =
+    scan_done i h k =
         let e : i ≡ n = omega arith in
         let z : n - n ≡ 0 = omega arith in
         rw (e, z, slice_empty n l) (append-nil (take n l))
 
   -- what stands behind the held places is not looked at
-  pub scan-beyond : (p : A → Bool) (i n : ℕ) (l : List A) (e : A) → i ≤ n → scanned p i n (set l n e) ≡ scanned p i n l
+  pub scan_beyond : (p : A → Bool) (i n : ℕ) (l : List A) (e : A) → i ≤ n → scanned p i n (set l n e) ≡ scanned p i n l
   unfolding scanned
-  scan-beyond p i n l e h = rw (take-set-le i l n e h, take-set-le n l n e (le_refl n))
+  scan_beyond p i n l e h = rw (take-set-le i l n e h, take-set-le n l n e (le_refl n))

@@ -25,12 +25,12 @@ and_left a b h = (and_both a b h).0
 pub and_right : (a b : Bool) → (a && b) ≡ true → b ≡ true
 and_right a b h = (and_both a b h).1
 
-pub and-true : {a b : Bool} → a ≡ true → b ≡ true → (a && b) ≡ true
-and-true e f = rw (e, f)
+pub and_true : {a b : Bool} → a ≡ true → b ≡ true → (a && b) ≡ true
+and_true e f = rw (e, f)
 
-pub or-either : (a b : Bool) → (a || b) ≡ true → (a ≡ true) ⊎ (b ≡ true)
-or-either true b h = inl refl
-or-either false b h = inr h
+pub or_either : (a b : Bool) → (a || b) ≡ true → (a ≡ true) ⊎ (b ≡ true)
+or_either true b h = inl refl
+or_either false b h = inr h
 
 pub or_left : {a : Bool} (b : Bool) → a ≡ true → (a || b) ≡ true
 or_left b e = rw e
@@ -39,9 +39,9 @@ pub or_right : (a : Bool) {b : Bool} → b ≡ true → (a || b) ≡ true
 or_right true e = refl
 or_right false e = e
 
-pub or-neither : (a b : Bool) → (a || b) ≡ false → (a ≡ false) × (b ≡ false)
-or-neither true b h = absurd (clash refl h)
-or-neither false b h = (refl, h)
+pub or_neither : (a b : Bool) → (a || b) ≡ false → (a ≡ false) × (b ≡ false)
+or_neither true b h = absurd (clash refl h)
+or_neither false b h = (refl, h)
 
 -- what holds of the one whenever it holds of the other cannot fail of it alone
 pub not_so : {a b : Bool} → (a ≡ true → b ≡ true) → b ≡ false → a ≡ false

@@ -12,158 +12,158 @@ use lib.ListN.{length}
 use Rattle.lists.specs.Search.{one, some, count, change_first, first_by}
 use Rattle.lists.specs.Removal.{refilled, sweep_for, sweep, take_out, take_out_newest}
 use Rattle.lists.proofs.Bools.{split, clash, and_both}
-use Rattle.lists.proofs.Searches.{some-weaken, some-by, some-counted}
-use Rattle.lists.proofs.Removals.{length-refilled, count-refilled}
+use Rattle.lists.proofs.Searches.{some_weaken, some_by, some_counted}
+use Rattle.lists.proofs.Removals.{length_refilled, count_refilled}
 
 -- ---- 1 for yes, 0 for no
 
-pub one-yes : {b : Bool} → b ≡ true → one b ≡ 1
-one-yes e = rw e
+pub one_yes : {b : Bool} → b ≡ true → one b ≡ 1
+one_yes e = rw e
 
-pub one-no : {b : Bool} → b ≡ false → one b ≡ 0
-one-no e = rw e
+pub one_no : {b : Bool} → b ≡ false → one b ≡ 0
+one_no e = rw e
 
-pub none-one : (b : Bool) → one b ≡ 0 → b ≡ false
-none-one true e = absurd (omega arith)
-none-one false e = refl
+pub none_one : (b : Bool) → one b ≡ 0 → b ≡ false
+none_one true e = absurd (omega arith)
+none_one false e = refl
 
-pub one-most : (b : Bool) → one b ≤ 1
-one-most true = omega arith
-one-most false = omega arith
+pub one_most : (b : Bool) → one b ≤ 1
+one_most true = omega arith
+one_most false = omega arith
 
-one-both : (a b : Bool) → one (a && b) ≤ one a
-one-both true b = one-most b
-one-both false b = omega arith
+one_both : (a b : Bool) → one (a && b) ≤ one a
+one_both true b = one_most b
+one_both false b = omega arith
 
 module _ {A : Type 0} where
   -- ---- with no element, and with one more in front
 
-  pub count-nil : (p : A → Bool) → count p [] ≡ 0
+  pub count_nil : (p : A → Bool) → count p [] ≡ 0
   unfolding count
-  count-nil p = refl
+  count_nil p = refl
 
-  pub count-cons : (p : A → Bool) (x : A) (l : List A) → count p (x ∷ l) ≡ one (p x) + count p l
+  pub count_cons : (p : A → Bool) (x : A) (l : List A) → count p (x ∷ l) ≡ one (p x) + count p l
   unfolding count
-  count-cons p x l = refl
+  count_cons p x l = refl
 
-  pub some-nil : (p : A → Bool) → some p [] ≡ false
+  pub some_nil : (p : A → Bool) → some p [] ≡ false
   unfolding some
-  some-nil p = refl
+  some_nil p = refl
 
-  pub some-cons : (p : A → Bool) (x : A) (l : List A) → some p (x ∷ l) ≡ (p x || some p l)
+  pub some_cons : (p : A → Bool) (x : A) (l : List A) → some p (x ∷ l) ≡ (p x || some p l)
   unfolding some
-  some-cons p x l = refl
+  some_cons p x l = refl
 
   -- where p holds of the one in front, that is the first, and the newest
-  pub in-front : (p : A → Bool) (d x : A) (l : List A) → p x ≡ true → first_by p d (x ∷ l) ≡ x
+  pub in_front : (p : A → Bool) (d x : A) (l : List A) → p x ≡ true → first_by p d (x ∷ l) ≡ x
   unfolding first_by
-  in-front p d x l h = rw (h, first_by)
+  in_front p d x l h = rw (h, first_by)
 
-  pub newest-out : (p : A → Bool) (x : A) (l : List A) → p x ≡ true → take_out_newest p (x ∷ l) ≡ l
+  pub newest_out : (p : A → Bool) (x : A) (l : List A) → p x ≡ true → take_out_newest p (x ∷ l) ≡ l
   unfolding take_out_newest
-  newest-out p x l h = rw (h, take_out_newest)
+  newest_out p x l h = rw (h, take_out_newest)
 
   -- ---- counting
 
   -- where every element counts, the count is the length
-  pub count-every : (l : List A) → count (λ x. true) l ≡ length l
+  pub count_every : (l : List A) → count (λ x. true) l ≡ length l
   unfolding count
-  count-every [] = refl
-  count-every (x ∷ xs) = omega (arith, count-every xs)
+  count_every [] = refl
+  count_every (x ∷ xs) = omega (arith, count_every xs)
 
-  pub count-append : (p : A → Bool) (l m : List A) → count p (l ++ m) ≡ count p l + count p m
+  pub count_append : (p : A → Bool) (l m : List A) → count p (l ++ m) ≡ count p l + count p m
   unfolding count
-  count-append p [] m = omega arith
-  count-append p (x ∷ xs) m = omega (arith, count-append p xs m)
+  count_append p [] m = omega arith
+  count_append p (x ∷ xs) m = omega (arith, count_append p xs m)
 
   -- one more at the end
-  pub count-end : (p : A → Bool) (l : List A) (x : A) → count p (l ++ (x ∷ [])) ≡ count p l + one (p x)
+  pub count_end : (p : A → Bool) (l : List A) (x : A) → count p (l ++ (x ∷ [])) ≡ count p l + one (p x)
   unfolding count
-  count-end p l x = omega (arith, count-append p l (x ∷ []))
+  count_end p l x = omega (arith, count_append p l (x ∷ []))
 
   -- there is one where the count is not 0
-  pub count-some : (p : A → Bool) (l : List A) → some p l ≡ true → 1 ≤ count p l
-  count-some p l h = ltb-true 0 (count p l) (sym (some-counted p l) ∙ h)
+  pub count_some : (p : A → Bool) (l : List A) → some p l ≡ true → 1 ≤ count p l
+  count_some p l h = ltb-true 0 (count p l) (sym (some_counted p l) ∙ h)
 
-  pub some-count : (p : A → Bool) (l : List A) → 1 ≤ count p l → some p l ≡ true
-  some-count p l h = some-counted p l ∙ lt-ltb 0 (count p l) h
+  pub some_count : (p : A → Bool) (l : List A) → 1 ≤ count p l → some p l ≡ true
+  some_count p l h = some_counted p l ∙ lt-ltb 0 (count p l) h
 
   pub count_none : (p : A → Bool) (l : List A) → some p l ≡ false → count p l ≡ 0
-  count_none p l h = omega (arith, ltb-false 0 (count p l) (sym (some-counted p l) ∙ h))
+  count_none p l h = omega (arith, ltb-false 0 (count p l) (sym (some_counted p l) ∙ h))
 
-  pub none-count : (p : A → Bool) (l : List A) → count p l ≡ 0 → some p l ≡ false
-  none-count p l h = some-counted p l ∙ rw h
+  pub none_count : (p : A → Bool) (l : List A) → count p l ≡ 0 → some p l ≡ false
+  none_count p l h = some_counted p l ∙ rw h
 
-  pub some-long : (p : A → Bool) (l : List A) → some p l ≡ true → 0 < length l
-  some-long p [] h = absurd (clash h (some-nil p))
-  some-long p (x ∷ xs) h = omega arith
+  pub some_long : (p : A → Bool) (l : List A) → some p l ≡ true → 0 < length l
+  some_long p [] h = absurd (clash h (some_nil p))
+  some_long p (x ∷ xs) h = omega arith
 
   -- one that p holds of and q does not is one that r holds of
-  pub some-rest : (p q r : A → Bool) (l : List A) → ((x : A) → p x ≡ true → q x ≡ false → r x ≡ true) → some p l ≡ true → count q l ≡ 0
+  pub some_rest : (p q r : A → Bool) (l : List A) → ((x : A) → p x ≡ true → q x ≡ false → r x ≡ true) → some p l ≡ true → count q l ≡ 0
       → some r l ≡ true
-  some-rest p q r l f h none =
+  some_rest p q r l f h none =
       ⊎_elim
-      (λ e. absurd (clash (some-weaken (λ x. p x && q x) q l (λ x t. (and_both (p x) (q x) t).1) e) (none-count q l none)))
-      (λ e. some-weaken (λ x. p x && not (q x)) r l (λ x t. let w = and_both (p x) (not (q x)) t in f x w.0 (not-true (q x) w.1)) e)
-      (some-by p q l h)
+      (λ e. absurd (clash (some_weaken (λ x. p x && q x) q l (λ x t. (and_both (p x) (q x) t).1) e) (none_count q l none)))
+      (λ e. some_weaken (λ x. p x && not (q x)) r l (λ x t. let w = and_both (p x) (not (q x)) t in f x w.0 (not-true (q x) w.1)) e)
+      (some_by p q l h)
 
   -- of those that p holds of, no more meet q too
   pub both_fewer : (p q : A → Bool) (l : List A) → count (λ z. p z && q z) l ≤ count p l
   unfolding count
   both_fewer p q [] = omega arith
-  both_fewer p q (z ∷ zs) = omega (arith, both_fewer p q zs, one-both (p z) (q z))
+  both_fewer p q (z ∷ zs) = omega (arith, both_fewer p q zs, one_both (p z) (q z))
 
   -- ---- the first one that q holds of
 
-  pub first-meets : (q : A → Bool) (d : A) (l : List A) → some q l ≡ true → q (first_by q d l) ≡ true
+  pub first_meets : (q : A → Bool) (d : A) (l : List A) → some q l ≡ true → q (first_by q d l) ≡ true
   unfolding some first_by
-  first-meets q d [] h = absurd (clash h refl)
-  first-meets q d (x ∷ xs) h = split (q x) (λ t. rw (t, first_by) t) (λ t. rw (t, first_by) (first-meets q d xs (rw t at h)))
+  first_meets q d [] h = absurd (clash h refl)
+  first_meets q d (x ∷ xs) h = split (q x) (λ t. rw (t, first_by) t) (λ t. rw (t, first_by) (first_meets q d xs (rw t at h)))
 
   -- changed, it counts for what it has become
-  pub count-changed : (p q : A → Bool) (f : A → A) (d : A) (l : List A) → some q l ≡ true
+  pub count_changed : (p q : A → Bool) (f : A → A) (d : A) (l : List A) → some q l ≡ true
       → count p (change_first q f l) + one (p (first_by q d l)) ≡ count p l + one (p (f (first_by q d l)))
   unfolding some first_by change_first count
-  count-changed p q f d [] h = absurd (clash h refl)
-  count-changed p q f d (x ∷ xs) h =
+  count_changed p q f d [] h = absurd (clash h refl)
+  count_changed p q f d (x ∷ xs) h =
       split (q x)
       (λ t. rw (t, first_by, change_first) (omega arith))
-      (λ t. let r = count-changed p q f d xs (rw t at h) in rw (t, first_by, change_first) (omega arith))
+      (λ t. let r = count_changed p q f d xs (rw t at h) in rw (t, first_by, change_first) (omega arith))
 
   -- taken out, it counts no longer
-  pub count-taken : (p q : A → Bool) (d : A) (l : List A) → some q l ≡ true → count p (take_out q l) + one (p (first_by q d l)) ≡ count p l
+  pub count_taken : (p q : A → Bool) (d : A) (l : List A) → some q l ≡ true → count p (take_out q l) + one (p (first_by q d l)) ≡ count p l
   unfolding some first_by take_out count
-  count-taken p q d [] h = absurd (clash h refl)
-  count-taken p q d (x ∷ xs) h =
+  count_taken p q d [] h = absurd (clash h refl)
+  count_taken p q d (x ∷ xs) h =
       split (q x)
-      (λ t. rw (t, first_by, take_out) (omega (arith, count-refilled p xs)))
-      (λ t. let r = count-taken p q d xs (rw t at h) in rw (t, first_by, take_out) (omega arith))
+      (λ t. rw (t, first_by, take_out) (omega (arith, count_refilled p xs)))
+      (λ t. let r = count_taken p q d xs (rw t at h) in rw (t, first_by, take_out) (omega arith))
 
-  pub count-taken-newest : (p q : A → Bool) (d : A) (l : List A) → some q l ≡ true
+  pub count_taken_newest : (p q : A → Bool) (d : A) (l : List A) → some q l ≡ true
       → count p (take_out_newest q l) + one (p (first_by q d l)) ≡ count p l
   unfolding some first_by take_out_newest count
-  count-taken-newest p q d [] h = absurd (clash h refl)
-  count-taken-newest p q d (x ∷ xs) h =
+  count_taken_newest p q d [] h = absurd (clash h refl)
+  count_taken_newest p q d (x ∷ xs) h =
       split (q x)
       (λ t. rw (t, first_by, take_out_newest) (omega arith))
-      (λ t. let r = count-changed p q (λ y. x) d xs (rw t at h) in rw (t, first_by, take_out_newest) (omega arith))
+      (λ t. let r = count_changed p q (λ y. x) d xs (rw t at h) in rw (t, first_by, take_out_newest) (omega arith))
 
   -- ---- all that p holds of removed
 
-  count-swept-for : (n : ℕ) (q p : A → Bool) (l : List A) → length l ≤ n
+  count_swept_for : (n : ℕ) (q p : A → Bool) (l : List A) → length l ≤ n
       → count q (sweep_for n p l) + count (λ x. q x && p x) l ≡ count q l
   unfolding sweep_for count
-  count-swept-for zero q p [] h = refl
-  count-swept-for zero q p (x ∷ xs) h = absurd (not-suc-le-zero h)
-  count-swept-for (suc n) q p [] h = refl
-  count-swept-for (suc n) q p (x ∷ xs) h =
+  count_swept_for zero q p [] h = refl
+  count_swept_for zero q p (x ∷ xs) h = absurd (not-suc-le-zero h)
+  count_swept_for (suc n) q p [] h = refl
+  count_swept_for (suc n) q p (x ∷ xs) h =
       let k : length xs ≤ n = le_of_suc-le-suc h in
       split (p x)
-      (λ t. let r = count-swept-for n q p (refilled xs) (omega (arith, length-refilled xs)) in
-      rw (t, sweep_for, and-true (q x)) (omega (arith, count-refilled q xs, count-refilled (λ x. q x && p x) xs)))
-      (λ t. let r = count-swept-for n q p xs k in rw (t, sweep_for, and-false (q x)) (omega arith))
+      (λ t. let r = count_swept_for n q p (refilled xs) (omega (arith, length_refilled xs)) in
+      rw (t, sweep_for, and-true (q x)) (omega (arith, count_refilled q xs, count_refilled (λ x. q x && p x) xs)))
+      (λ t. let r = count_swept_for n q p xs k in rw (t, sweep_for, and-false (q x)) (omega arith))
 
   -- of those that q holds of, the ones that p holds of too go
-  pub count-swept : (q p : A → Bool) (l : List A) → count q (sweep p l) + count (λ x. q x && p x) l ≡ count q l
+  pub count_swept : (q p : A → Bool) (l : List A) → count q (sweep p l) + count (λ x. q x && p x) l ≡ count q l
   unfolding sweep
-  count-swept q p l = count-swept-for (length l) q p l (le_refl (length l))
+  count_swept q p l = count_swept_for (length l) q p l (le_refl (length l))

@@ -13,10 +13,10 @@ use Rattle.lists.proofs.Bools.{split}
 module _ {A B : Type 0} (f : A → B) where
   -- ---- searching
 
-  pub some-map : (p : B → Bool) (l : List A) → some p (map f l) ≡ some (λ x. p (f x)) l
+  pub some_map : (p : B → Bool) (l : List A) → some p (map f l) ≡ some (λ x. p (f x)) l
   unfolding some
-  some-map p [] = refl
-  some-map p (x ∷ xs) = ap (λ b. p (f x) || b) (some-map p xs)
+  some_map p [] = refl
+  some_map p (x ∷ xs) = ap (λ b. p (f x) || b) (some_map p xs)
 
   pub count_map : (p : B → Bool) (l : List A) → count p (map f l) ≡ count (λ x. p (f x)) l
   unfolding count
@@ -24,61 +24,61 @@ module _ {A B : Type 0} (f : A → B) where
   count_map p (x ∷ xs) = ap (λ n. one (p (f x)) + n) (count_map p xs)
 
   -- numbers taken off the elements first, or on the way
-  pub distinct-map : (g : B → ℕ) (l : List A) → distinct g (map f l) ≡ distinct (λ x. g (f x)) l
+  pub distinct_map : (g : B → ℕ) (l : List A) → distinct g (map f l) ≡ distinct (λ x. g (f x)) l
   unfolding distinct
-  distinct-map g [] = refl
-  distinct-map g (x ∷ xs) = rw (some-map (λ n. eqb (g (f x)) (g n)) xs, distinct-map g xs)
+  distinct_map g [] = refl
+  distinct_map g (x ∷ xs) = rw (some_map (λ n. eqb (g (f x)) (g n)) xs, distinct_map g xs)
 
-  pub first-map : (p : B → Bool) (d : A) (l : List A) → first_by p (f d) (map f l) ≡ f (first_by (λ x. p (f x)) d l)
+  pub first_map : (p : B → Bool) (d : A) (l : List A) → first_by p (f d) (map f l) ≡ f (first_by (λ x. p (f x)) d l)
   unfolding first_by
-  first-map p d [] = refl
-  first-map p d (x ∷ xs) = split (p (f x)) (λ t. rw (t, first_by)) (λ t. rw (t, first_by) (first-map p d xs))
+  first_map p d [] = refl
+  first_map p d (x ∷ xs) = split (p (f x)) (λ t. rw (t, first_by)) (λ t. rw (t, first_by) (first_map p d xs))
 
   -- ---- swap removal
 
-  last-map : (x : A) (l : List A) → last_of (f x) (map f l) ≡ f (last_of x l)
+  last_map : (x : A) (l : List A) → last_of (f x) (map f l) ≡ f (last_of x l)
   unfolding last_of
-  last-map x [] = refl
-  last-map x (y ∷ ys) = last-map y ys
+  last_map x [] = refl
+  last_map x (y ∷ ys) = last_map y ys
 
-  init-map : (x : A) (l : List A) → init_of (f x) (map f l) ≡ map f (init_of x l)
+  init_map : (x : A) (l : List A) → init_of (f x) (map f l) ≡ map f (init_of x l)
   unfolding init_of
-  init-map x [] = refl
-  init-map x (y ∷ ys) = ap (λ l. f x ∷ l) (init-map y ys)
+  init_map x [] = refl
+  init_map x (y ∷ ys) = ap (λ l. f x ∷ l) (init_map y ys)
 
-  refilled-map : (l : List A) → refilled (map f l) ≡ map f (refilled l)
+  refilled_map : (l : List A) → refilled (map f l) ≡ map f (refilled l)
   unfolding refilled
-  refilled-map [] = refl
-  refilled-map (x ∷ xs) = rw (last-map x xs, init-map x xs)
+  refilled_map [] = refl
+  refilled_map (x ∷ xs) = rw (last_map x xs, init_map x xs)
 
-  sweep-for-map : (n : ℕ) (p : B → Bool) (l : List A) → sweep_for n p (map f l) ≡ map f (sweep_for n (λ x. p (f x)) l)
+  sweep_for_map : (n : ℕ) (p : B → Bool) (l : List A) → sweep_for n p (map f l) ≡ map f (sweep_for n (λ x. p (f x)) l)
   unfolding sweep_for
-  sweep-for-map zero p l = refl
-  sweep-for-map (suc n) p [] = refl
-  sweep-for-map (suc n) p (x ∷ xs) =
+  sweep_for_map zero p l = refl
+  sweep_for_map (suc n) p [] = refl
+  sweep_for_map (suc n) p (x ∷ xs) =
       split (p (f x))
-      (λ t. rw (t, sweep_for) (ap (sweep_for n p) (refilled-map xs) ∙ sweep-for-map n p (refilled xs)))
-      (λ t. rw (t, sweep_for) (ap (λ l. f x ∷ l) (sweep-for-map n p xs)))
+      (λ t. rw (t, sweep_for) (ap (sweep_for n p) (refilled_map xs) ∙ sweep_for_map n p (refilled xs)))
+      (λ t. rw (t, sweep_for) (ap (λ l. f x ∷ l) (sweep_for_map n p xs)))
 
-  pub sweep-map : (p : B → Bool) (l : List A) → sweep p (map f l) ≡ map f (sweep (λ x. p (f x)) l)
+  pub sweep_map : (p : B → Bool) (l : List A) → sweep p (map f l) ≡ map f (sweep (λ x. p (f x)) l)
   unfolding sweep
-  sweep-map p l = ap (λ n. sweep_for n p (map f l)) (length-map l f) ∙ sweep-for-map (length l) p l
+  sweep_map p l = ap (λ n. sweep_for n p (map f l)) (length-map l f) ∙ sweep_for_map (length l) p l
 
-  pub taken-map : (p : B → Bool) (l : List A) → take_out p (map f l) ≡ map f (take_out (λ x. p (f x)) l)
+  pub taken_map : (p : B → Bool) (l : List A) → take_out p (map f l) ≡ map f (take_out (λ x. p (f x)) l)
   unfolding take_out
-  taken-map p [] = refl
-  taken-map p (x ∷ xs) =
-      split (p (f x)) (λ t. rw (t, take_out) (refilled-map xs)) (λ t. rw (t, take_out) (ap (λ l. f x ∷ l) (taken-map p xs)))
+  taken_map p [] = refl
+  taken_map p (x ∷ xs) =
+      split (p (f x)) (λ t. rw (t, take_out) (refilled_map xs)) (λ t. rw (t, take_out) (ap (λ l. f x ∷ l) (taken_map p xs)))
 
-  changed-map : (p : B → Bool) (z : A) (l : List A)
+  changed_map : (p : B → Bool) (z : A) (l : List A)
       → change_first p (λ y. f z) (map f l) ≡ map f (change_first (λ x. p (f x)) (λ y. z) l)
   unfolding change_first
-  changed-map p z [] = refl
-  changed-map p z (x ∷ xs) =
-      split (p (f x)) (λ t. rw (t, change_first)) (λ t. rw (t, change_first) (ap (λ l. f x ∷ l) (changed-map p z xs)))
+  changed_map p z [] = refl
+  changed_map p z (x ∷ xs) =
+      split (p (f x)) (λ t. rw (t, change_first)) (λ t. rw (t, change_first) (ap (λ l. f x ∷ l) (changed_map p z xs)))
 
-  pub newest-taken-map : (p : B → Bool) (l : List A) → take_out_newest p (map f l) ≡ map f (take_out_newest (λ x. p (f x)) l)
+  pub newest_taken_map : (p : B → Bool) (l : List A) → take_out_newest p (map f l) ≡ map f (take_out_newest (λ x. p (f x)) l)
   unfolding take_out_newest
-  newest-taken-map p [] = refl
-  newest-taken-map p (x ∷ xs) =
-      split (p (f x)) (λ t. rw (t, take_out_newest)) (λ t. rw (t, take_out_newest) (changed-map p x xs))
+  newest_taken_map p [] = refl
+  newest_taken_map p (x ∷ xs) =
+      split (p (f x)) (λ t. rw (t, take_out_newest)) (λ t. rw (t, take_out_newest) (changed_map p x xs))

@@ -9,8 +9,8 @@ use lib.ListN.{length, length-drop, take, drop, get_or}
 use lib.Seq.{drop-cons, take_all}
 
 module _ {A : Type 0} where
-  pub drop-next : (l : List A) (i : ℕ) (d : A) → i < length l → drop i l ≡ get_or l i d ∷ drop (i + 1) l
-  drop-next l i d h = rw (add-one, drop-cons l i d h)
+  pub drop_next : (l : List A) (i : ℕ) (d : A) → i < length l → drop i l ≡ get_or l i d ∷ drop (i + 1) l
+  drop_next l i d h = rw (add-one, drop-cons l i d h)
 
   -- the part `&l[at..]`
   pub rest : (l : List A) (at : ℕ) → take (length l - at) (drop at l) ≡ drop at l

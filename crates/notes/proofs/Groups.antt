@@ -18,41 +18,41 @@ use Rattle.lists.specs.Removal.{sweep}
 use Rattle.entries.specs.Paths.{blank, under, with_identity, candidate}
 use Rattle.notes.specs.Notes.{sized, group_of, larger, largest_from, largest, newest, folded}
 use Rattle.lists.proofs.Bools.{split}
-use Rattle.lists.proofs.Removals.{length-swept}
+use Rattle.lists.proofs.Removals.{length_swept}
 
 -- a group's size is how many entries it covers, or it is no group
 abbrev Counted : List ChangedAttr → Group → Type 0
 Counted l g = (g.size ≡ count (under g.by) l) ⊎ (g.size ≤ 1)
 
 module _ (l : List ChangedAttr) where
-  sized-counted : (k : Coarser) → Counted l (sized l k)
-  sized-counted (To by) = inl refl
-  sized-counted Nothing = inr (omega arith)
+  sized_counted : (k : Coarser) → Counted l (sized l k)
+  sized_counted (To by) = inl refl
+  sized_counted Nothing = inr (omega arith)
 
-  larger-counted : (a b : Group) → Counted l a → Counted l b → Counted l (larger a b)
+  larger_counted : (a b : Group) → Counted l a → Counted l b → Counted l (larger a b)
   unfolding larger
-  larger-counted a b f g = split (ltb a.size b.size) (λ t. rw (t, larger) g) (λ t. rw (t, larger) f)
+  larger_counted a b f g = split (ltb a.size b.size) (λ t. rw (t, larger) g) (λ t. rw (t, larger) f)
 
-  from-counted : (level : Level) (best : Group) (m : List ChangedAttr) → Counted l best → Counted l (largest_from level l best m)
+  from_counted : (level : Level) (best : Group) (m : List ChangedAttr) → Counted l best → Counted l (largest_from level l best m)
   unfolding largest_from group_of
-  from-counted level best [] g = g
-  from-counted level best (x ∷ xs) g =
-      from-counted level (larger best (group_of level l x)) xs
-      (larger-counted best (group_of level l x) g (sized-counted (candidate level x)))
+  from_counted level best [] g = g
+  from_counted level best (x ∷ xs) g =
+      from_counted level (larger best (group_of level l x)) xs
+      (larger_counted best (group_of level l x) g (sized_counted (candidate level x)))
 
   -- the winner covers as many entries as it says
-  pub largest-covers : (level : Level) {g : Group} → g ≡ largest level l → 1 < g.size → 1 < count (under g.by) l
+  pub largest_covers : (level : Level) {g : Group} → g ≡ largest level l → 1 < g.size → 1 < count (under g.by) l
   unfolding largest
-  largest-covers level {g} e h =
-      let w : Counted l g = rw e (from-counted level (record { by = blank; size = 1 }) l (inr (le_refl 1))) in
+  largest_covers level {g} e h =
+      let w : Counted l g = rw e (from_counted level (record { by = blank; size = 1 }) l (inr (le_refl 1))) in
       ⊎_elim (λ f. omega arith) (λ f. absurd (omega arith)) w
 
   -- without what it covers there is room for it
-  pub swept-room : (by : ChangedAttr) → length l ≤ 16 → 1 < count (under by) l → length (sweep (under by) l) + 2 ≤ 16
-  swept-room by h k = omega (arith, length-swept (under by) l)
+  pub swept_room : (by : ChangedAttr) → length l ≤ 16 → 1 < count (under by) l → length (sweep (under by) l) + 2 ≤ 16
+  swept_room by h k = omega (arith, length_swept (under by) l)
 
   -- and with it for the note
-  pub folded-room : (by : ChangedAttr) → length l ≤ 16 → 1 < count (under by) l → length (folded by l) < 16
+  pub folded_room : (by : ChangedAttr) → length l ≤ 16 → 1 < count (under by) l → length (folded by l) < 16
   unfolding folded
-  folded-room by h k =
-      omega (arith, swept-room by h k, length-append (sweep (under by) l) (with_identity (newest (under by) l) by ∷ []))
+  folded_room by h k =
+      omega (arith, swept_room by h k, length-append (sweep (under by) l) (with_identity (newest (under by) l) by ∷ []))

@@ -8,7 +8,7 @@ use borrow.Author.Tests.{le-leb, leb-true, eq-eqb}
 use lib.Dec.{leb}
 use lib.ListN.{length, replicate}
 use lib.Seq.{take-append_seam}
-use Rattle.lists.proofs.Bools.{and_both, and-true}
+use Rattle.lists.proofs.Bools.{and_both, and_true}
 use Rattle.entries.specs.declared.ChangedAttr.{ChangedAttr}
 use Rattle.entries.specs.Paths.{blank, covers}
 use Rattle.notes.specs.Places.{listed, held_as}
@@ -19,30 +19,30 @@ pub list_held : (l : List ChangedAttr) → listed (held_as l) ≡ l
 unfolding held_as
 list_held l = take-append_seam l _
 
-pub length-held : (l : List ChangedAttr) → (held_as l).len ≡ length l
+pub length_held : (l : List ChangedAttr) → (held_as l).len ≡ length l
 unfolding held_as
-length-held l = refl
+length_held l = refl
 
 -- without entries every place is blank
-pub none-held : held_as [] ≡ record { entries = replicate 16 blank; len = 0 }
+pub none_held : held_as [] ≡ record { entries = replicate 16 blank; len = 0 }
 unfolding held_as
-none-held = refl
+none_held = refl
 
 -- an entry carries or reaches a change by covering it with its identity, or with one that is no earlier
 module _ (q x : ChangedAttr) (k : ℕ) (over : covers x q ≡ true) where
-  pub carries-by : x.identity ≡ k → carries q k x ≡ true
+  pub carries_by : x.identity ≡ k → carries q k x ≡ true
   unfolding carries
-  carries-by e = and-true over (eq-eqb x.identity k e)
+  carries_by e = and_true over (eq-eqb x.identity k e)
 
-  pub reaches-by : k ≤ x.identity → reaches q k x ≡ true
+  pub reaches_by : k ≤ x.identity → reaches q k x ≡ true
   unfolding reaches
-  reaches-by late = and-true over (le-leb k x.identity late)
+  reaches_by late = and_true over (le-leb k x.identity late)
 
 module _ (q x : ChangedAttr) (k : ℕ) (r : reaches q k x ≡ true) where
-  pub reaches-covers : covers x q ≡ true
+  pub reaches_covers : covers x q ≡ true
   unfolding reaches
-  reaches-covers = (and_both (covers x q) (leb k x.identity) r).0
+  reaches_covers = (and_both (covers x q) (leb k x.identity) r).0
 
-  pub reaches-late : k ≤ x.identity
+  pub reaches_late : k ≤ x.identity
   unfolding reaches
-  reaches-late = leb-true k x.identity (and_both (covers x q) (leb k x.identity) r).1
+  reaches_late = leb-true k x.identity (and_both (covers x q) (leb k x.identity) r).1

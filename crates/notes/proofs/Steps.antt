@@ -17,12 +17,12 @@ use Rattle.lists.specs.Search.{some, first}
 use Rattle.entries.specs.Paths.{blank, with_identity, over}
 use Rattle.notes.specs.Notes.{newest, refreshed, larger, group_of, largest_from}
 use Rattle.notes.specs.Places.{listed, held_as, Holds}
-use Rattle.lists.proofs.Searches.{first_some, changed-at}
-use Rattle.lists.proofs.Arrays.{slice-next, slice-done}
+use Rattle.lists.proofs.Searches.{first_some, changed_at}
+use Rattle.lists.proofs.Arrays.{slice_next, slice_done}
 
 -- the number of entries is the length of their list
-pub entries-length : (h : Held) → length h.entries ≡ 16 → h.len ≤ 16 → length (listed h) ≡ h.len
-entries-length h long fits = length-take-le h.len h.entries (omega arith)
+pub entries_length : (h : Held) → length h.entries ≡ 16 → h.len ≤ 16 → length (listed h) ≡ h.len
+entries_length h long fits = length-take-le h.len h.entries (omega arith)
 
 -- a length beyond the array counts all of it
 pub beyond : (h : Held) → length h.entries ≡ 16 → 16 ≤ h.len → take 16 h.entries ≡ listed h
@@ -30,7 +30,7 @@ beyond h long over = take_all 16 h.entries (omega arith) ∙ sym (take_all h.len
 
 -- an array of sixteen places whose entries are l
 pub holding : (h : Held) {l : List ChangedAttr} → length h.entries ≡ 16 → h.len ≤ 16 → listed h ≡ l → Holds h l
-holding h long fits e = record { lives = e; counts = sym (entries-length h long fits) ∙ ap length e; fits = fits }
+holding h long fits e = record { lives = e; counts = sym (entries_length h long fits) ∙ ap length e; fits = fits }
 
 -- the same entries under another name
 pub holds_as : {g : Held} {l m : List ChangedAttr} → Holds g l → l ≡ m → Holds g m
@@ -41,36 +41,36 @@ pub found : (p : ChangedAttr → Bool) (l : List ChangedAttr) {n i : ℕ} → le
 found p l e f = rw (← e, f) (first_some p l)
 
 -- the first entry that covers the note, by its place
-pub refreshed-at : (n : ChangedAttr) (l : List ChangedAttr) {k i : ℕ} → length l ≡ k → i ≡ first (over n) l → i < k
+pub refreshed_at : (n : ChangedAttr) (l : List ChangedAttr) {k i : ℕ} → length l ≡ k → i ≡ first (over n) l → i < k
     → set l i (with_identity n.identity (get_or l i blank)) ≡ refreshed n l
 unfolding refreshed
-refreshed-at n l e f h =
+refreshed_at n l e f h =
     let within : first (over n) l < length l = omega arith in
-    rw f (sym (changed-at (over n) (with_identity n.identity) l blank within))
+    rw f (sym (changed_at (over n) (with_identity n.identity) l blank within))
 
 module _ (i n : ℕ) (l : List ChangedAttr) (room : n ≤ length l) where
-  pub newest-hit : (p : ChangedAttr → Bool) → i < n → p (get_or l i blank) ≡ true
+  pub newest_hit : (p : ChangedAttr → Bool) → i < n → p (get_or l i blank) ≡ true
       → newest p (slice i n l) ≡ max (get_or l i blank).identity (newest p (slice (i + 1) n l))
   unfolding newest
-  newest-hit p h e = rw (slice-next i n l blank h room, e, newest)
+  newest_hit p h e = rw (slice_next i n l blank h room, e, newest)
 
-  pub newest-miss : (p : ChangedAttr → Bool) → i < n → p (get_or l i blank) ≡ false → newest p (slice i n l) ≡ newest p (slice (i + 1) n l)
+  pub newest_miss : (p : ChangedAttr → Bool) → i < n → p (get_or l i blank) ≡ false → newest p (slice i n l) ≡ newest p (slice (i + 1) n l)
   unfolding newest
-  newest-miss p h e = rw (slice-next i n l blank h room, e, newest) (omega arith)
+  newest_miss p h e = rw (slice_next i n l blank h room, e, newest) (omega arith)
 
-  pub newest-done : (p : ChangedAttr → Bool) → i ≤ n → n ≤ i → newest p (slice i n l) ≡ 0
+  pub newest_done : (p : ChangedAttr → Bool) → i ≤ n → n ≤ i → newest p (slice i n l) ≡ 0
   unfolding newest
-  newest-done p h k = rw (slice-done i n l h k)
+  newest_done p h k = rw (slice_done i n l h k)
 
   module _ (level : Level) (all : List ChangedAttr) (best : Group) where
-    pub largest-next : {b g : Group} → i < n → b ≡ larger best g → g ≡ group_of level all (get_or l i blank)
+    pub largest_next : {b g : Group} → i < n → b ≡ larger best g → g ≡ group_of level all (get_or l i blank)
         → largest_from level all best (slice i n l) ≡ largest_from level all b (slice (i + 1) n l)
     unfolding largest_from
-    largest-next h e f = rw (slice-next i n l blank h room, e, f, largest_from)
+    largest_next h e f = rw (slice_next i n l blank h room, e, f, largest_from)
 
-    pub largest-done : i ≤ n → n ≤ i → largest_from level all best (slice i n l) ≡ best
+    pub largest_done : i ≤ n → n ≤ i → largest_from level all best (slice i n l) ≡ best
     unfolding largest_from
-    largest-done h k = rw (slice-done i n l h k)
+    largest_done h k = rw (slice_done i n l h k)
 
 module _ (l : List ChangedAttr) (n : ℕ) (long : length l ≡ 16) where
   -- an entry stored behind the last
@@ -90,14 +90,14 @@ blanked l m n i long le lt e =
     let one : i + 1 - n ≡ i - n + 1 = omega arith in
     rw (one, ← replicate-append-replicate (i - n) 1 blank, ← append_assoc, ← e, add-one, take-suc-set l i blank within)
 
-pub blank-start : (l : List ChangedAttr) (n : ℕ) → l ≡ l ++ replicate (n - n) blank
-blank-start l n = let none : n - n ≡ 0 = omega arith in rw (none, append-nil l)
+pub blank_start : (l : List ChangedAttr) (n : ℕ) → l ≡ l ++ replicate (n - n) blank
+blank_start l n = let none : n - n ≡ 0 = omega arith in rw (none, append-nil l)
 
 -- with every place beyond the entries blank, the array is settled by them
-pub blank-end : (h : Held) (l : List ChangedAttr) (i : ℕ) → length h.entries ≡ 16 → 16 ≤ i → i ≤ 16 → h.len ≡ length l
+pub blank_end : (h : Held) (l : List ChangedAttr) (i : ℕ) → length h.entries ≡ 16 → 16 ≤ i → i ≤ 16 → h.len ≡ length l
     → take i h.entries ≡ l ++ replicate (i - h.len) blank → h ≡ held_as l
 unfolding held_as
-blank-end h l i long ge le counts e =
+blank_end h l i long ge le counts e =
     let at : i ≡ 16 = omega arith in
     let all : take 16 h.entries ≡ h.entries = take_all 16 h.entries (omega arith) in
     let filled : h.entries ≡ l ++ replicate (16 - length l) blank = sym all ∙ (rw (at, counts) at e) in

@@ -11,7 +11,7 @@ use Rattle.lists.proofs.Bools.{and_both}
 use Rattle.rules.specs.States.{State}
 use Rattle.rules.specs.Machine.{Outcome}
 use Rattle.rules.proofs.Clauses.{counted_is}
-use Rattle.rules.proofs.Lives.{lives-counted}
+use Rattle.rules.proofs.Lives.{lives_counted}
 use Rattle.rules.proofs.Sound.{Sound}
 use Rattle.original.specs.Table.{Subscriptions}
 use Rattle.original.specs.Calls.{Reply, reply}
@@ -21,10 +21,10 @@ use Rattle.original.specs.Likeness.{original_of}
 abbrev pub reply_of : Outcome → Reply
 reply_of o = reply o.answer (original_of o.state)
 
-pub same-table : {t u : Subscriptions} → t.capacity ≡ u.capacity → t.next_subscription_id ≡ u.next_subscription_id
+pub same_table : {t u : Subscriptions} → t.capacity ≡ u.capacity → t.next_subscription_id ≡ u.next_subscription_id
     → t.subscriptions_count ≡ u.subscriptions_count → t.subscriptions ≡ u.subscriptions → t.changed_attrs ≡ u.changed_attrs
     → t.reporting ≡ u.reporting → t.reporting_cancelled ≡ u.reporting_cancelled → t.contexts ≡ u.contexts → t ≡ u
-same-table a b c d e f g h =
+same_table a b c d e f g h =
     λ i. record {
       capacity = a i;
       next_subscription_id = b i;
@@ -45,4 +45,4 @@ pub record Fit (s : State) : Type 0 where
 pub few : (s : State) → Sound s → length s.stored + length s.opens ≤ 80
 few s h =
     let w = and_both (leb 1 s.capacity) (leb s.capacity 80) h.capacity in
-    omega (arith, h.room, lives-counted s, counted_is s, leb-true s.capacity 80 w.1)
+    omega (arith, h.room, lives_counted s, counted_is s, leb-true s.capacity 80 w.1)

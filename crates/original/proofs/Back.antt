@@ -11,7 +11,7 @@ use borrow.Author.Tests.{eqb-true, eq-eqb, not-true, not-false}
 use lib.Dec.{eqb}
 use Rattle.lists.specs.Search.{one, some, count, first_by}
 use Rattle.lists.proofs.Bools.{split, and_both, or_left, or_right}
-use Rattle.lists.proofs.Counts.{none-one, count-nil, count-cons, count-some, some-cons, in-front}
+use Rattle.lists.proofs.Counts.{none_one, count_nil, count_cons, count_some, some_cons, in_front}
 use Rattle.changes.specs.Reach.{Tidy}
 use Rattle.subscription.specs.declared.Subscription as one
 use Rattle.subscription.specs.Life.{blank}
@@ -19,18 +19,18 @@ use Rattle.rules.specs.States.{State, fresh, is_report, has_id}
 use Rattle.rules.specs.Calls.{Op}
 use Rattle.rules.specs.Machine.{step, run}
 use Rattle.rules.proofs.Acts.{run_none, run_more}
-use Rattle.rules.proofs.Clauses.{has-id-is}
+use Rattle.rules.proofs.Clauses.{has_id_is}
 use Rattle.rules.proofs.Sound.{Sound}
-use Rattle.rules.proofs.Steps.{fresh-sound, step-sound}
-use Rattle.changes.proofs.Answering.{fresh-tidy}
+use Rattle.rules.proofs.Steps.{fresh_sound, step_sound}
+use Rattle.changes.proofs.Answering.{fresh_tidy}
 use Rattle.original.specs.Std.{unwrap_or}
 use Rattle.original.specs.Subscription.{Subscription}
 use Rattle.original.specs.Table.{owns_slot}
 use Rattle.original.specs.Likeness.{subscription_of, context_of, reporting_of, cancelled_of, log_of, original_of, stored_of, open_of, state_of}
 use Rattle.original.specs.Demand.{NothingLeftOut}
-use Rattle.original.proofs.LogLasts.{tidy-lasts, log-lasts}
+use Rattle.original.proofs.LogLasts.{tidy_lasts, log_lasts}
 use Rattle.original.proofs.Opens.{owner}
-use Rattle.original.proofs.StoredBlank.{opens, Blank, step-blank}
+use Rattle.original.proofs.StoredBlank.{opens, Blank, step_blank}
 
 -- ---- one subscription
 
@@ -62,9 +62,9 @@ stored_back x h =
           reporting = sym r i;
         }
 
-open-back : (slot : Option Subscription) (x : one.Subscription) → owns_slot x.id slot ≡ is_report x → open_of slot (context_of x) ≡ x
+open_back : (slot : Option Subscription) (x : one.Subscription) → owns_slot x.id slot ≡ is_report x → open_of slot (context_of x) ≡ x
 unfolding open_of context_of subscription_of
-open-back slot x h =
+open_back slot x h =
     λ i. record {
       peer = x.peer;
       reported = x.reported;
@@ -85,18 +85,18 @@ open-back slot x h =
 
 -- ---- lists of them
 
-all-stored-back : (l : List one.Subscription) → count opens l ≡ 0 → map stored_of (map subscription_of l) ≡ l
-all-stored-back [] h = refl
-all-stored-back (x ∷ xs) h =
-    let c = count-cons opens x xs in
-    λ i. stored_back x (none-one (opens x) (omega arith)) i ∷ all-stored-back xs (omega arith) i
+all_stored_back : (l : List one.Subscription) → count opens l ≡ 0 → map stored_of (map subscription_of l) ≡ l
+all_stored_back [] h = refl
+all_stored_back (x ∷ xs) h =
+    let c = count_cons opens x xs in
+    λ i. stored_back x (none_one (opens x) (omega arith)) i ∷ all_stored_back xs (omega arith) i
 
 -- whoever has an id owns the slot exactly where it is the report
 abbrev Owners : Option Subscription → List one.Subscription → Type 0
 Owners slot l = (id : ℕ) → some (has_id id) l ≡ true → owns_slot id slot ≡ is_report (first_by (has_id id) blank l)
 
-has-own-id : (x : one.Subscription) → has_id x.id x ≡ true
-has-own-id x = has-id-is x.id x ∙ eq-eqb x.id x.id refl
+has_own_id : (x : one.Subscription) → has_id x.id x ≡ true
+has_own_id x = has_id_is x.id x ∙ eq-eqb x.id x.id refl
 
 passed : (p : one.Subscription → Bool) (d x : one.Subscription) (l : List one.Subscription) → p x ≡ false
     → first_by p d (x ∷ l) ≡ first_by p d l
@@ -104,21 +104,21 @@ unfolding first_by
 passed p d x l h = rw (h, first_by)
 
 -- no two have the same id, so that behind one who has it nobody has
-others-own : (slot : Option Subscription) (x : one.Subscription) (l : List one.Subscription) → ((j : ℕ) → count (has_id j) (x ∷ l) ≤ 1)
+others_own : (slot : Option Subscription) (x : one.Subscription) (l : List one.Subscription) → ((j : ℕ) → count (has_id j) (x ∷ l) ≤ 1)
     → Owners slot (x ∷ l) → Owners slot l
-others-own slot x l apart owners id h =
-    let c = count-cons (has_id id) x l in
-    let another = none-one (has_id id x) (omega (arith, apart id, count-some (has_id id) l h)) in
-    owners id (some-cons (has_id id) x l ∙ or_right (has_id id x) h) ∙ ap is_report (passed (has_id id) blank x l another)
+others_own slot x l apart owners id h =
+    let c = count_cons (has_id id) x l in
+    let another = none_one (has_id id x) (omega (arith, apart id, count_some (has_id id) l h)) in
+    owners id (some_cons (has_id id) x l ∙ or_right (has_id id x) h) ∙ ap is_report (passed (has_id id) blank x l another)
 
-all-open-back : (slot : Option Subscription) (l : List one.Subscription) → ((j : ℕ) → count (has_id j) l ≤ 1) → Owners slot l
+all_open_back : (slot : Option Subscription) (l : List one.Subscription) → ((j : ℕ) → count (has_id j) l ≤ 1) → Owners slot l
     → map (open_of slot) (map context_of l) ≡ l
-all-open-back slot [] apart owners = refl
-all-open-back slot (x ∷ xs) apart owners =
-    let first = open-back slot x
-    (owners x.id (some-cons (has_id x.id) x xs ∙ or_left (some (has_id x.id) xs) (has-own-id x))
-    ∙ ap is_report (in-front (has_id x.id) blank x xs (has-own-id x))) in
-    let others = all-open-back slot xs (λ j. omega (arith, apart j, count-cons (has_id j) x xs)) (others-own slot x xs apart owners) in
+all_open_back slot [] apart owners = refl
+all_open_back slot (x ∷ xs) apart owners =
+    let first = open_back slot x
+    (owners x.id (some_cons (has_id x.id) x xs ∙ or_left (some (has_id x.id) xs) (has_own_id x))
+    ∙ ap is_report (in_front (has_id x.id) blank x xs (has_own_id x))) in
+    let others = all_open_back slot xs (λ j. omega (arith, apart j, count_cons (has_id j) x xs)) (others_own slot x xs apart owners) in
     λ i. first i ∷ others i
 
 -- ---- the state
@@ -135,28 +135,28 @@ pub record Told (s : State) : Type 0 where
 back : (s : State) → Told s → state_of (original_of s) ≡ s
 unfolding state_of original_of log_of
 back s told =
-    let stored = all-stored-back s.stored told.blank in
+    let stored = all_stored_back s.stored told.blank in
     let apart : (j : ℕ) → count (has_id j) s.opens ≤ 1 = λ j. omega (arith, told.sound.ids j) in
     let opens =
-    all-open-back (reporting_of s.opens) s.opens apart (λ id h. owner id s.opens h told.sound.single (apart id)) in
+    all_open_back (reporting_of s.opens) s.opens apart (λ id h. owner id s.opens h told.sound.single (apart id)) in
     let cancel = cancel_back s.cancel in
     let log = told.tidy in
     λ i. record { capacity = s.capacity; next = s.next; cancel = cancel i; stored = stored i; opens = opens i; log = sym log i }
 
 -- ---- histories
 
-history-told : (ops : List Op) (s : State) → Told s → Told (run ops s)
-history-told [] s told = rw (run_none s) told
-history-told (op ∷ ops) s told =
+history_told : (ops : List Op) (s : State) → Told s → Told (run ops s)
+history_told [] s told = rw (run_none s) told
+history_told (op ∷ ops) s told =
     rw (run_more op ops s)
-    (history-told ops (step op s).state
+    (history_told ops (step op s).state
     (record {
-      sound = step-sound op s told.sound;
-      blank = step-blank op s told.blank;
-      tidy = log-lasts Tidy tidy-lasts op s told.sound.log told.tidy;
+      sound = step_sound op s told.sound;
+      blank = step_blank op s told.blank;
+      tidy = log_lasts Tidy tidy_lasts op s told.sound.log told.tidy;
     }))
 
-pub nothing-left-out : NothingLeftOut
-nothing-left-out capacity able ops =
+pub nothing_left_out : NothingLeftOut
+nothing_left_out capacity able ops =
     back (run ops (fresh capacity))
-    (history-told ops (fresh capacity) (record { sound = fresh-sound capacity able; blank = count-nil opens; tidy = fresh-tidy }))
+    (history_told ops (fresh capacity) (record { sound = fresh_sound capacity able; blank = count_nil opens; tidy = fresh_tidy }))

@@ -21,9 +21,9 @@ use Rattle.original.proofs.Outside.{request, at, stored, Answers}
 
 -- ---- the trace lines of document 01
 
-pub thirteen-lines : Answers thirteen_lines
+pub thirteen_lines_lem : Answers thirteen_lines
 unfolding original_rules
-thirteen-lines = refl
+thirteen_lines_lem = refl
 
 -- ---- the log
 
@@ -38,25 +38,25 @@ abbrev eight : List ℕ
 eight = 0 ∷ 1 ∷ 2 ∷ 3 ∷ 4 ∷ 5 ∷ 6 ∷ 7 ∷ []
 
 -- P8: the attributes of a cluster become one entry
-pub cluster-folds : entries_after (map (λ a. call.note 1 6 a) sixteen ++ (call.note 2 6 0 ∷ []))
+pub cluster_folds : entries_after (map (λ a. call.note 1 6 a) sixteen ++ (call.note 2 6 0 ∷ []))
     ≡ concrete 1 6 wildcard_attr 16 ∷ concrete 2 6 0 17 ∷ []
 unfolding original_rules
-cluster-folds = refl
+cluster_folds = refl
 
 -- P9: the clusters of an endpoint become one entry
-pub endpoint-folds : entries_after (map (λ c. call.note 1 c 0) sixteen ++ (call.note 1 17 0 ∷ []))
+pub endpoint_folds : entries_after (map (λ c. call.note 1 c 0) sixteen ++ (call.note 1 17 0 ∷ []))
     ≡ concrete 1 wildcard_cluster wildcard_attr 17 ∷ []
 unfolding original_rules
-endpoint-folds = refl
+endpoint_folds = refl
 
 -- P10: where nothing folds, everything does
-pub everything-folds : entries_after (map (λ e. call.note e 6 0) sixteen ++ (call.note 17 6 0 ∷ []))
+pub everything_folds : entries_after (map (λ e. call.note e 6 0) sixteen ++ (call.note 17 6 0 ∷ []))
     ≡ concrete wildcard_endpoint wildcard_cluster wildcard_attr 17 ∷ []
 unfolding original_rules
-everything-folds = refl
+everything_folds = refl
 
 -- of two groups of one size the first folds, and the last entries have filled its places
-pub first-of-two-folds : entries_after (map (λ a. call.note 1 6 a) eight ++ map (λ a. call.note 1 7 a) eight ++ (call.note 2 6 0 ∷ []))
+pub first_of_two_folds : entries_after (map (λ a. call.note 1 6 a) eight ++ map (λ a. call.note 1 7 a) eight ++ (call.note 2 6 0 ∷ []))
     ≡ concrete 1 7 7 16
     ∷ concrete 1 7 6 15
     ∷ concrete 1 7 5 14
@@ -69,26 +69,26 @@ pub first-of-two-folds : entries_after (map (λ a. call.note 1 6 a) eight ++ map
     ∷ concrete 2 6 0 17
     ∷ []
 unfolding original_rules
-first-of-two-folds = refl
+first_of_two_folds = refl
 
 -- the identity after the last is 1
-pub identity-after-the-last : record_concrete 3 6 0 (record { next_change_id = 18446744073709551615; entries = [] })
+pub identity_after_the_last : record_concrete 3 6 0 (record { next_change_id = 18446744073709551615; entries = [] })
     ≡ record { next_change_id = 1; entries = concrete 3 6 0 18446744073709551615 ∷ [] }
 unfolding original_rules
-identity-after-the-last = refl
+identity_after_the_last = refl
 
 -- ---- the table
 
 -- a table of one place is full with one
-abbrev one_place : Diary
-one_place =
+abbrev one_place_lem : Diary
+one_place_lem =
     (call.new 1, call.number 1)
     ∷ (call.add request 0 (instant 1000), call.number 1)
     ∷ (call.add request 0 (instant 1000), call.refused Full)
     ∷ (call.resume 9 request 0, call.refused Full)
     ∷ []
 
-pub one_place_lem : Answers one_place
+pub one_place_lem : Answers one_place_lem
 unfolding original_rules
 one_place_lem = refl
 
@@ -105,12 +105,12 @@ purge_waits =
     ∷ (call.report (at 2000), call.handed 2 5)
     ∷ [])
 
-pub purge-waits : Answers purge_waits
+pub purge_waits_lem : Answers purge_waits
 unfolding original_rules
-purge-waits = refl
+purge_waits_lem = refl
 
 -- what everybody has seen is purged
-pub purge-takes :
+pub purge_takes :
     entries_after
     (call.add request 0 (instant 1000)
     ∷ call.complete 1 0
@@ -120,12 +120,12 @@ pub purge-takes :
     ∷ call.purge
     ∷ []) ≡ []
 unfolding original_rules
-purge-takes = refl
+purge_takes = refl
 
 -- who may speak and has nothing to say is not reportable
 abbrev nothing_to_say : Diary
 nothing_to_say = stored 1 ++ ((call.any_reportable (instant 2500) 0 Default, call.yes_no false) ∷ [])
 
-pub nothing-to-say : Answers nothing_to_say
+pub nothing_to_say_lem : Answers nothing_to_say
 unfolding original_rules
-nothing-to-say = refl
+nothing_to_say_lem = refl

@@ -6,8 +6,8 @@ use mathlib.Core.Bool.{false, ◌||◌}
 use mathlib.Core.List.{List, [], ◌∷◌, ◌++◌}
 use Prim.Native.Nat.{ℕ}
 use Rattle.lists.specs.Search.{some}
-use Rattle.lists.proofs.Bools.{or-neither}
-use Rattle.lists.proofs.Counts.{some-nil, some-cons}
+use Rattle.lists.proofs.Bools.{or_neither}
+use Rattle.lists.proofs.Counts.{some_nil, some_cons}
 use Rattle.time.specs.declared.KeepAlive.TheVariants.{Default, Icd}
 use Rattle.instants.specs.Instants.{instant}
 use Rattle.choices.specs.declared.Choice.TheVariants.{Peer}
@@ -15,7 +15,7 @@ use Rattle.rules.specs.Calls as call
 use Rattle.rules.specs.Calls.{Op}
 use Rattle.rules.specs.States.{State, fresh}
 use Rattle.rules.specs.Machine.{step, answers}
-use Rattle.rules.proofs.Acts.{answers-none, answers-more}
+use Rattle.rules.proofs.Acts.{answers_none, answers_more}
 use Rattle.rules.proofs.Computing.{all_rules}
 use Rattle.original.specs.Demand.{strays, InDomain}
 use Rattle.original.proofs.Outside.{request, at}
@@ -45,20 +45,20 @@ every_call =
     ∷ call.clear
     ∷ []
 
-pub every-call-inside : InDomain 80 every_call
+pub every_call_inside : InDomain 80 every_call
 unfolding all_rules
-every-call-inside = refl
+every_call_inside = refl
 
-answers-begin : (ops more : List Op) (s : State) → some strays (answers (ops ++ more) s) ≡ false → some strays (answers ops s) ≡ false
-answers-begin [] more s h = ap (some strays) (answers-none s) ∙ some-nil strays
-answers-begin (op ∷ ops) more s h =
-    let w = or-neither (strays (step op s).answer) (some strays (answers (ops ++ more) (step op s).state))
+answers_begin : (ops more : List Op) (s : State) → some strays (answers (ops ++ more) s) ≡ false → some strays (answers ops s) ≡ false
+answers_begin [] more s h = ap (some strays) (answers_none s) ∙ some_nil strays
+answers_begin (op ∷ ops) more s h =
+    let w = or_neither (strays (step op s).answer) (some strays (answers (ops ++ more) (step op s).state))
     (sym (split_off (ops ++ more)) ∙ h) in
-    split_off ops ∙ rw w.0 (answers-begin ops more (step op s).state w.1)
+    split_off ops ∙ rw w.0 (answers_begin ops more (step op s).state w.1)
   where
     split_off : (l : List Op)
         → some strays (answers (op ∷ l) s) ≡ (strays (step op s).answer || some strays (answers l (step op s).state))
-    split_off l = ap (some strays) (answers-more op l s) ∙ some-cons strays (step op s).answer (answers l (step op s).state)
+    split_off l = ap (some strays) (answers_more op l s) ∙ some_cons strays (step op s).answer (answers l (step op s).state)
 
-pub beginnings-inside : (capacity : ℕ) (ops more : List Op) → InDomain capacity (ops ++ more) → InDomain capacity ops
-beginnings-inside capacity ops more h = answers-begin ops more (fresh capacity) h
+pub beginnings_inside : (capacity : ℕ) (ops more : List Op) → InDomain capacity (ops ++ more) → InDomain capacity ops
+beginnings_inside capacity ops more h = answers_begin ops more (fresh capacity) h

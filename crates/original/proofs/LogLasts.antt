@@ -13,37 +13,37 @@ use Rattle.lists.proofs.Bools.{split}
 use Rattle.changes.specs.declared.ChangedAttrs.{ChangedAttrs}
 use Rattle.changes.specs.Logs.{kept, fresh_log, noted, purged, cleared}
 use Rattle.changes.specs.Reach.{Tidy}
-use Rattle.changes.proofs.Answering.{fresh-tidy}
-use Rattle.changes.proofs.Promises.{after-most, note-next, note-tidy, purge-next, purge-tidy, clear_next, clear-tidy}
+use Rattle.changes.proofs.Answering.{fresh_tidy}
+use Rattle.changes.proofs.Promises.{after_most, note_next, note_tidy, purge_next, purge_tidy, clear_next, clear_tidy}
 use Rattle.rules.specs.States.{State}
 use Rattle.rules.specs.Calls as call
 use Rattle.rules.specs.Calls.{Settings, Op}
 use Rattle.rules.specs.Machine.{ready, least_seen, reported, completed_in, Turn, turned, round_from, act, step}
-use Rattle.rules.proofs.Acts.{act-new, act-note, reported-none, act-complete, act-completed, act-purge, round-over, round-goes-on, round-falls-silent, act-round}
-use Rattle.rules.proofs.Lives.{handed-state}
-use Rattle.rules.proofs.LogKept.{log-kept}
-use Rattle.rules.proofs.Refusals.{step-either}
+use Rattle.rules.proofs.Acts.{act_new, act_note, reported_none, act_complete, act_completed, act_purge, round_over, round_goes_on, round_falls_silent, act_round}
+use Rattle.rules.proofs.Lives.{handed_state}
+use Rattle.rules.proofs.LogKept.{log_kept_lem}
+use Rattle.rules.proofs.Refusals.{step_either}
 
 -- ---- a report and a completion leave the log, and so does a round
 
-report-log : (at : Settings) (s : State) → (reported at s).state.log ≡ s.log
-report-log at s =
+report_log : (at : Settings) (s : State) → (reported at s).state.log ≡ s.log
+report_log at s =
     split (some (ready at s) s.stored)
-    (λ t. ap (λ u. u.log) (handed-state at s t))
-    (λ t. ap (λ r. r.state.log) (reported-none at s t))
+    (λ t. ap (λ u. u.log) (handed_state at s t))
+    (λ t. ap (λ r. r.state.log) (reported_none at s t))
 
-complete-log : (id o : ℕ) (s : State) → (completed_in id o s).state.log ≡ s.log
-complete-log id o s = ap (λ r. r.state.log) (sym (act-completed s id o) ∙ act-complete s id o)
+complete_log : (id o : ℕ) (s : State) → (completed_in id o s).state.log ≡ s.log
+complete_log id o s = ap (λ r. r.state.log) (sym (act_completed s id o) ∙ act_complete s id o)
 
-round-log : (at : Settings) (os : List ℕ) (t : Turn) → (round_from at os t).state.log ≡ t.state.log
-round-log at [] t = ap (λ u. u.state.log) (round-over at t)
-round-log at (o ∷ os) t =
+round_log : (at : Settings) (os : List ℕ) (t : Turn) → (round_from at os t).state.log ≡ t.state.log
+round_log at [] t = ap (λ u. u.state.log) (round_over at t)
+round_log at (o ∷ os) t =
     split (some (ready at t.state) t.state.stored)
-    (λ f. ap (λ u. u.state.log) (round-goes-on at o os t f)
-    ∙ round-log at os (turned at o t)
-    ∙ complete-log _ o (reported at t.state).state
-    ∙ report-log at t.state)
-    (λ f. ap (λ u. u.state.log) (round-falls-silent at o os t f))
+    (λ f. ap (λ u. u.state.log) (round_goes_on at o os t f)
+    ∙ round_log at os (turned at o t)
+    ∙ complete_log _ o (reported at t.state).state
+    ∙ report_log at t.state)
+    (λ f. ap (λ u. u.state.log) (round_falls_silent at o os t f))
 
 -- ---- what lasts
 
@@ -55,11 +55,11 @@ pub record Lasts (P : ChangedAttrs → Type 0) : Type 0 where
   pub clear : (g : ChangedAttrs) → P g → P (cleared g).log
 
 module _ (P : ChangedAttrs → Type 0) (lasts : Lasts P) where
-  purge-lasts : (s : State) → P s.log
+  purge_lasts : (s : State) → P s.log
       → P
       (cond (ltb 0 (length s.opens)) s.log
       (cond (ltb 0 (length s.stored)) (purged s.log (least_seen s.stored)).log (cleared s.log).log))
-  purge-lasts s h = go (ltb 0 (length s.opens)) (ltb 0 (length s.stored))
+  purge_lasts s h = go (ltb 0 (length s.opens)) (ltb 0 (length s.stored))
     where
       go : (a b : Bool) → P (cond a s.log (cond b (purged s.log (least_seen s.stored)).log (cleared s.log).log))
       go true b = h
@@ -72,48 +72,48 @@ module _ (P : ChangedAttrs → Type 0) (lasts : Lasts P) where
 
   -- a call that may touch it, where it acts
   acting : (op : Op) (s : State) → P (act op s).state.log → P s.log → P (step op s).state.log
-  acting op s a h = step-either (λ r. P r.state.log) op s (λ e. a) (λ why e. h)
+  acting op s a h = step_either (λ r. P r.state.log) op s (λ e. a) (λ why e. h)
 
-  pub log-lasts : (op : Op) (s : State) → kept s.log ≡ true → P s.log → P (step op s).state.log
-  log-lasts (call.new capacity) s k h = acting (call.new capacity) s (rw (act-new s capacity) lasts.fresh) h
-  log-lasts (call.add request events now) s k h = left (call.add request events now) s (log-kept _ s refl) h
-  log-lasts (call.resume id request events) s k h = left (call.resume id request events) s (log-kept _ s refl) h
-  log-lasts (call.note e c a) s k h = acting (call.note e c a) s (rw (act-note s e c a) (lasts.note s.log k e c a h)) h
-  log-lasts (call.report at) s k h = left (call.report at) s (log-kept _ s refl) h
-  log-lasts (call.complete id o) s k h = left (call.complete id o) s (log-kept _ s refl) h
-  log-lasts (call.remove choice reason) s k h = left (call.remove choice reason) s (log-kept _ s refl) h
-  log-lasts call.clear s k h = left call.clear s (log-kept _ s refl) h
-  log-lasts call.purge s k h = acting call.purge s (rw (act-purge s) (purge-lasts s h)) h
-  log-lasts (call.attribute id e c a) s k h = left (call.attribute id e c a) s (log-kept _ s refl) h
-  log-lasts (call.send_if_empty id kind) s k h = left (call.send_if_empty id kind) s (log-kept _ s refl) h
-  log-lasts (call.next_instant events kind) s k h = left (call.next_instant events kind) s (log-kept _ s refl) h
-  log-lasts (call.any_reportable now events kind) s k h = left (call.any_reportable now events kind) s (log-kept _ s refl) h
-  log-lasts call.next_keep_alive s k h = left call.next_keep_alive s (log-kept _ s refl) h
-  log-lasts (call.statistics fabric) s k h = left (call.statistics fabric) s (log-kept _ s refl) h
-  log-lasts (call.has_subscription fabric peer) s k h = left (call.has_subscription fabric peer) s (log-kept _ s refl) h
-  log-lasts (call.round at os ids) s k h =
+  pub log_lasts : (op : Op) (s : State) → kept s.log ≡ true → P s.log → P (step op s).state.log
+  log_lasts (call.new capacity) s k h = acting (call.new capacity) s (rw (act_new s capacity) lasts.fresh) h
+  log_lasts (call.add request events now) s k h = left (call.add request events now) s (log_kept_lem _ s refl) h
+  log_lasts (call.resume id request events) s k h = left (call.resume id request events) s (log_kept_lem _ s refl) h
+  log_lasts (call.note e c a) s k h = acting (call.note e c a) s (rw (act_note s e c a) (lasts.note s.log k e c a h)) h
+  log_lasts (call.report at) s k h = left (call.report at) s (log_kept_lem _ s refl) h
+  log_lasts (call.complete id o) s k h = left (call.complete id o) s (log_kept_lem _ s refl) h
+  log_lasts (call.remove choice reason) s k h = left (call.remove choice reason) s (log_kept_lem _ s refl) h
+  log_lasts call.clear s k h = left call.clear s (log_kept_lem _ s refl) h
+  log_lasts call.purge s k h = acting call.purge s (rw (act_purge s) (purge_lasts s h)) h
+  log_lasts (call.attribute id e c a) s k h = left (call.attribute id e c a) s (log_kept_lem _ s refl) h
+  log_lasts (call.send_if_empty id kind) s k h = left (call.send_if_empty id kind) s (log_kept_lem _ s refl) h
+  log_lasts (call.next_instant events kind) s k h = left (call.next_instant events kind) s (log_kept_lem _ s refl) h
+  log_lasts (call.any_reportable now events kind) s k h = left (call.any_reportable now events kind) s (log_kept_lem _ s refl) h
+  log_lasts call.next_keep_alive s k h = left call.next_keep_alive s (log_kept_lem _ s refl) h
+  log_lasts (call.statistics fabric) s k h = left (call.statistics fabric) s (log_kept_lem _ s refl) h
+  log_lasts (call.has_subscription fabric peer) s k h = left (call.has_subscription fabric peer) s (log_kept_lem _ s refl) h
+  log_lasts (call.round at os ids) s k h =
       acting (call.round at os ids) s
-      (rw (act-round s at os ids) (subst⁻¹ P (round-log at os (record { hand_outs = 0; ids = ids; state = s })) h)) h
+      (rw (act_round s at os ids) (subst⁻¹ P (round_log at os (record { hand_outs = 0; ids = ids; state = s })) h)) h
 
 -- identities have 64 bits
 abbrev pub Narrow : ChangedAttrs → Type 0
 Narrow g = g.next ≤ 18446744073709551615
 
-pub narrow-lasts : Lasts Narrow
-narrow-lasts =
+pub narrow_lasts : Lasts Narrow
+narrow_lasts =
     record {
       fresh = omega arith;
-      note = λ g k e c a h. rw (note-next g k e c a) (after-most g.next h);
-      purge = λ g t h. rw (purge-next g t) h;
+      note = λ g k e c a h. rw (note_next g k e c a) (after_most g.next h);
+      purge = λ g t h. rw (purge_next g t) h;
       clear = λ g h. rw (clear_next g) h;
     }
 
 -- places beyond the entries are blank
-pub tidy-lasts : Lasts Tidy
-tidy-lasts =
+pub tidy_lasts : Lasts Tidy
+tidy_lasts =
     record {
-      fresh = fresh-tidy;
-      note = λ g k e c a h. note-tidy g k e c a;
-      purge = λ g t h. purge-tidy g t h;
-      clear = λ g h. clear-tidy g h;
+      fresh = fresh_tidy;
+      note = λ g k e c a h. note_tidy g k e c a;
+      purge = λ g t h. purge_tidy g t h;
+      clear = λ g h. clear_tidy g h;
     }

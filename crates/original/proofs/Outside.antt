@@ -50,9 +50,9 @@ overwritten =
     ∷ (call.complete 1 0, call.completed true false)
     ∷ []
 
-pub report-overwritten : Answers overwritten × Refused 3 overwritten
+pub report_overwritten : Answers overwritten × Refused 3 overwritten
 unfolding original_rules all_rules
-report-overwritten = (refl, refl)
+report_overwritten = (refl, refl)
 
 -- An id that is live is resumed again: two stored ones have it.
 abbrev resumed_twice : Diary
@@ -62,9 +62,9 @@ resumed_twice =
     ∷ (call.statistics 1, call.stats 2 2 5)
     ∷ []
 
-pub id-resumed-twice : Answers resumed_twice × Refused 4 resumed_twice
+pub id_resumed_twice : Answers resumed_twice × Refused 4 resumed_twice
 unfolding original_rules all_rules
-id-resumed-twice = (refl, refl)
+id_resumed_twice = (refl, refl)
 
 -- The last id is given again and again: the next id after it is wrapped to 0, and stays where it is.
 abbrev added_twice : Diary
@@ -74,9 +74,9 @@ added_twice =
     ∷ (call.add request 0 (instant 1000), call.number 4294967295)
     ∷ []
 
-pub id-added-twice : Answers added_twice × Refused 4 added_twice
+pub id_added_twice : Answers added_twice × Refused 4 added_twice
 unfolding original_rules all_rules
-id-added-twice = (refl, refl)
+id_added_twice = (refl, refl)
 
 -- Cleared while a priming is open, the table counts nobody, and the priming is stored and not counted.
 abbrev stored_uncounted : Diary
@@ -87,9 +87,9 @@ stored_uncounted =
     ∷ (call.statistics 1, call.stats 0 1 1)
     ∷ []
 
-pub stored-and-not-counted : Answers stored_uncounted × Refused 6 stored_uncounted
+pub stored_and_not_counted : Answers stored_uncounted × Refused 6 stored_uncounted
 unfolding original_rules all_rules
-stored-and-not-counted = (refl, refl)
+stored_and_not_counted = (refl, refl)
 
 -- A purge meanwhile finds nothing open, and a note made while the priming was open is lost to it.
 abbrev note_lost : Diary
@@ -102,9 +102,9 @@ note_lost =
     ∷ (call.report (at 2000), call.nothing)
     ∷ []
 
-pub note-lost : Answers note_lost × Refused 6 note_lost
+pub note_lost_lem : Answers note_lost × Refused 6 note_lost
 unfolding original_rules all_rules
-note-lost = (refl, refl)
+note_lost_lem = (refl, refl)
 
 -- Abandoned, it takes the count below zero, where nothing checks it: the table is full for ever.
 abbrev below_zero : Diary
@@ -116,6 +116,6 @@ below_zero =
     ∷ (call.add request 0 (instant 1000), call.refused Full)
     ∷ []
 
-pub count-below-zero : Answers below_zero × Refused 6 below_zero
+pub count_below_zero : Answers below_zero × Refused 6 below_zero
 unfolding original_rules all_rules
-count-below-zero = (refl, refl)
+count_below_zero = (refl, refl)

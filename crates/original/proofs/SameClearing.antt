@@ -12,10 +12,10 @@ use lib.Dec.{eqb, leb, ltb}
 use lib.ListN.{length, length-map}
 use Rattle.lists.specs.Search.{one, some, count, least_by}
 use Rattle.lists.specs.Removal.{sweep}
-use Rattle.lists.proofs.Bools.{split, or-neither, and_left}
-use Rattle.lists.proofs.Counts.{one-yes, one-no, count_none, count-some, none-count}
-use Rattle.lists.proofs.Numbers.{none-counted}
-use Rattle.lists.proofs.Maps.{some-map, sweep-map}
+use Rattle.lists.proofs.Bools.{split, or_neither, and_left}
+use Rattle.lists.proofs.Counts.{one_yes, one_no, count_none, count_some, none_count}
+use Rattle.lists.proofs.Numbers.{none_counted}
+use Rattle.lists.proofs.Maps.{some_map, sweep_map}
 use Rattle.changes.specs.declared.ChangedAttrs as changes
 use Rattle.changes.specs.Logs.{kept, purged, cleared}
 use Rattle.subscription.specs.declared.Subscription as one
@@ -25,8 +25,8 @@ use Rattle.rules.specs.States.{State, counted, is_report, is_priming}
 use Rattle.rules.specs.Calls as call
 use Rattle.rules.specs.Machine as machine
 use Rattle.rules.specs.Machine.{with_cancel, with_ones, with_log, least_seen, first_of, objections, act}
-use Rattle.rules.proofs.Acts.{act-remove, act-clear, act-purge}
-use Rattle.rules.proofs.Clauses.{counted_is, remove-objects, clear-objects}
+use Rattle.rules.proofs.Acts.{act_remove, act_clear, act_purge}
+use Rattle.rules.proofs.Clauses.{counted_is, remove_objects, clear_objects}
 use Rattle.rules.proofs.Objections.{unobjected}
 use Rattle.rules.proofs.Sound.{Sound}
 use Rattle.original.specs.Std.{iter_min}
@@ -35,67 +35,67 @@ use Rattle.original.specs.Table as table
 use Rattle.original.specs.Table.{cancels, remove, clear, purged_by, purge_reported_changes}
 use Rattle.original.specs.Calls.{reply, takes, call_on}
 use Rattle.original.specs.Likeness.{subscription_of, reporting_of, cancelled_of, log_of, original_of}
-use Rattle.original.proofs.Alike.{reply_of, same-table, few}
-use Rattle.original.proofs.Opens.{slot-full}
-use Rattle.original.proofs.SameNotes.{purge-is, clear-is}
-use Rattle.original.proofs.SameRemoval.{loop-sweeps}
+use Rattle.original.proofs.Alike.{reply_of, same_table, few}
+use Rattle.original.proofs.Opens.{slot_full}
+use Rattle.original.proofs.SameNotes.{purge_is, clear_is}
+use Rattle.original.proofs.SameRemoval.{loop_sweeps}
 use Rattle.original.proofs.SameSubscription.{takes_same}
-use Rattle.original.proofs.Vectors.{least-is}
+use Rattle.original.proofs.Vectors.{least_is}
 
 -- ---- removal
 
 module _ (f : Subscription → Bool) (q : one.Subscription → Bool) (same : (x : one.Subscription) → f (subscription_of x) ≡ q x) where
   -- the report matches exactly where an open one does that is no priming: there is at most one
-  slot-matches : (l : List one.Subscription) → count is_report l ≤ 1 → cancels f (reporting_of l) none ≡ some (λ x. is_report x && q x) l
+  slot_matches : (l : List one.Subscription) → count is_report l ≤ 1 → cancels f (reporting_of l) none ≡ some (λ x. is_report x && q x) l
   unfolding reporting_of some count
-  slot-matches [] h = refl
-  slot-matches (x ∷ xs) h = go (is_report x) refl (slot-matches xs)
+  slot_matches [] h = refl
+  slot_matches (x ∷ xs) h = go (is_report x) refl (slot_matches xs)
     where
       alone : count is_report xs ≡ 0 → some (λ x. is_report x && q x) xs ≡ false
       alone z =
-          none-count (λ x. is_report x && q x) xs
-          (none-counted is_report (λ x. is_report x && q x) xs (λ y e. and_left (is_report y) (q y) e) (none-count is_report xs z))
+          none_count (λ x. is_report x && q x) xs
+          (none_counted is_report (λ x. is_report x && q x) xs (λ y e. and_left (is_report y) (q y) e) (none_count is_report xs z))
 
       go : (b : Bool) → is_report x ≡ b
           → (count is_report xs ≤ 1 → cancels f (reporting_of xs) none ≡ some (λ x. is_report x && q x) xs)
           → cancels f (cond b (just (subscription_of x)) (reporting_of xs)) none ≡ ((b && q x) || some (λ x. is_report x && q x) xs)
-      go true e ih = same x ∙ sym (or-false (q x)) ∙ ap (λ b. q x || b) (sym (alone (omega (arith, one-yes e))))
-      go false e ih = ih (omega (arith, one-no e))
+      go true e ih = same x ∙ sym (or-false (q x)) ∙ ap (λ b. q x || b) (sym (alone (omega (arith, one_yes e))))
+      go false e ih = ih (omega (arith, one_no e))
 
   -- it is cancelled where it matches and is not cancelled yet
-  cancels-same : (n : ℕ) (l : List one.Subscription) → count is_report l ≤ 1
+  cancels_same : (n : ℕ) (l : List one.Subscription) → count is_report l ≤ 1
       → cancels f (reporting_of l) (cancelled_of n) ≡ (eqb n 0 && some (λ x. is_report x && q x) l)
-  cancels-same n l h = split (eqb n 0) (λ t. rw t (slot-matches l h)) (λ t. rw t (go (reporting_of l)))
+  cancels_same n l h = split (eqb n 0) (λ t. rw t (slot_matches l h)) (λ t. rw t (go (reporting_of l)))
     where
       go : (o : Option Subscription) → cancels f o (just n) ≡ false
       go none = refl
       go (just r) = refl
 
 -- a reason is not 0, so that the cancellation can be told by its number
-reason-same : (b : Bool) (reason n : ℕ) → eqb reason 0 ≡ false → cond b (just reason) (cancelled_of n) ≡ cancelled_of (cond b reason n)
-reason-same true reason n h = rw h
-reason-same false reason n h = refl
+reason_same : (b : Bool) (reason n : ℕ) → eqb reason 0 ≡ false → cond b (just reason) (cancelled_of n) ≡ cancelled_of (cond b reason n)
+reason_same true reason n h = rw h
+reason_same false reason n h = refl
 
-pub remove-same : (s : State) → Sound s → (choice : Choice) (reason : ℕ) → first_of (objections (call.remove choice reason) s) ≡ none
+pub remove_same : (s : State) → Sound s → (choice : Choice) (reason : ℕ) → first_of (objections (call.remove choice reason) s) ≡ none
     → call_on (call.remove choice reason) (original_of s) ≡ reply_of (act (call.remove choice reason) s)
 unfolding call_on remove original_of
-remove-same s sound choice reason e =
-    let a = unobjected _ _ _ (ap first_of (sym (remove-objects s choice reason)) ∙ e) in
-    let some-reason : eqb reason 0 ≡ false = (or-neither (eqb reason 0) (leb 255 reason) a.0).0 in
+remove_same s sound choice reason e =
+    let a = unobjected _ _ _ (ap first_of (sym (remove_objects s choice reason)) ∙ e) in
+    let some-reason : eqb reason 0 ≡ false = (or_neither (eqb reason 0) (leb 255 reason) a.0).0 in
     rw (
-      act-remove s choice reason,
+      act_remove s choice reason,
       counting,
-      loop-sweeps (takes choice) (map subscription_of s.stored) (length s.opens) room,
+      loop_sweeps (takes choice) (map subscription_of s.stored) (length s.opens) room,
       swept,
       wakes,
       cancelling,
-      reason-same (machine.cancels choice s) reason s.cancel some-reason,
+      reason_same (machine.cancels choice s) reason s.cancel some-reason,
     )
     (ap (reply (call.yes_no (some (chosen choice) s.stored || machine.cancels choice s)))
-    (same-table refl refl counts refl refl refl refl refl))
+    (same_table refl refl counts refl refl refl refl refl))
   where
-    takes-chosen : (λ x. takes choice (subscription_of x)) ≡ chosen choice
-    takes-chosen = fun_ext (λ x. takes_same x choice)
+    takes_chosen : (λ x. takes choice (subscription_of x)) ≡ chosen choice
+    takes_chosen = fun_ext (λ x. takes_same x choice)
 
     counting : counted s ≡ length (map subscription_of s.stored) + length s.opens
     counting = omega (arith, counted_is s, length-map s.stored subscription_of)
@@ -104,13 +104,13 @@ remove-same s sound choice reason e =
     room = omega (arith, few s sound, length-map s.stored subscription_of)
 
     swept : sweep (takes choice) (map subscription_of s.stored) ≡ map subscription_of (sweep (chosen choice) s.stored)
-    swept = sweep-map subscription_of (takes choice) s.stored ∙ ap (λ p. map subscription_of (sweep p s.stored)) takes-chosen
+    swept = sweep_map subscription_of (takes choice) s.stored ∙ ap (λ p. map subscription_of (sweep p s.stored)) takes_chosen
 
     wakes : some (takes choice) (map subscription_of s.stored) ≡ some (chosen choice) s.stored
-    wakes = some-map subscription_of (takes choice) s.stored ∙ ap (λ p. some p s.stored) takes-chosen
+    wakes = some_map subscription_of (takes choice) s.stored ∙ ap (λ p. some p s.stored) takes_chosen
 
     cancelling : cancels (takes choice) (reporting_of s.opens) (cancelled_of s.cancel) ≡ machine.cancels choice s
-    cancelling = cancels-same (takes choice) (chosen choice) (λ x. takes_same x choice) s.cancel s.opens sound.single
+    cancelling = cancels_same (takes choice) (chosen choice) (λ x. takes_same x choice) s.cancel s.opens sound.single
 
     after : State
     after =
@@ -132,21 +132,21 @@ kinds (x ∷ xs) = go (is_report x) (kinds xs)
     go true e = omega arith
     go false e = omega arith
 
-pub clear-same : (s : State) → Sound s → first_of (objections call.clear s) ≡ none
+pub clear_same : (s : State) → Sound s → first_of (objections call.clear s) ≡ none
     → call_on call.clear (original_of s) ≡ reply_of (act call.clear s)
 unfolding call_on clear original_of
-clear-same s sound e =
-    let a = unobjected _ _ _ (ap first_of (sym (clear-objects s)) ∙ e) in
+clear_same s sound e =
+    let a = unobjected _ _ _ (ap first_of (sym (clear_objects s)) ∙ e) in
     let only = kinds s.opens in
     let primings = count_none is_priming s.opens a.0 in
     split (some is_report s.opens)
-    (λ t. rw (act-clear s, slot-full s.opens, t)
+    (λ t. rw (act_clear s, slot_full s.opens, t)
     (ap (reply (call.yes_no false))
-    (same-table refl refl (omega (arith, counted_is (after 255), count-some is_report s.opens t, sound.single)) refl refl refl refl
+    (same_table refl refl (omega (arith, counted_is (after 255), count_some is_report s.opens t, sound.single)) refl refl refl refl
     refl)))
-    (λ t. rw (act-clear s, slot-full s.opens, t)
+    (λ t. rw (act_clear s, slot_full s.opens, t)
     (ap (reply (call.yes_no false))
-    (same-table refl refl (omega (arith, counted_is (after s.cancel), count_none is_report s.opens t)) refl refl refl refl refl)))
+    (same_table refl refl (omega (arith, counted_is (after s.cancel), count_none is_report s.opens t)) refl refl refl refl refl)))
   where
     after : ℕ → State
     after n = with_cancel (with_ones s [] s.opens) n
@@ -154,22 +154,22 @@ clear-same s sound e =
 -- ---- purge
 
 -- up to the least watermark of all stored ones, or all of it where none is stored
-purged-log : (g : changes.ChangedAttrs) → kept g ≡ true → (l : List one.Subscription)
+purged_log : (g : changes.ChangedAttrs) → kept g ≡ true → (l : List one.Subscription)
     → purged_by (iter_min (map (λ x. x.max_seen_attr_change_id) (map subscription_of l))) (log_of g)
     ≡ log_of (cond (ltb 0 (length l)) (purged g (least_seen l)).log (cleared g).log)
 unfolding subscription_of
-purged-log g k [] = clear-is g k
-purged-log g k (x ∷ xs) =
-    rw (least-is subscription_of (λ y. y.max_seen_attr_change_id) x.seen xs, lt-ltb 0 (suc (length xs)) (omega arith))
-    (purge-is g k (least_by (λ y. y.seen) x.seen xs))
+purged_log g k [] = clear_is g k
+purged_log g k (x ∷ xs) =
+    rw (least_is subscription_of (λ y. y.max_seen_attr_change_id) x.seen xs, lt-ltb 0 (suc (length xs)) (omega arith))
+    (purge_is g k (least_by (λ y. y.seen) x.seen xs))
 
-pub purge-same : (s : State) → Sound s → call_on call.purge (original_of s) ≡ reply_of (act call.purge s)
+pub purge_same : (s : State) → Sound s → call_on call.purge (original_of s) ≡ reply_of (act call.purge s)
 unfolding call_on purge_reported_changes original_of
-purge-same s sound =
+purge_same s sound =
     split (ltb 0 (length s.opens))
-    (λ t. rw (act-purge s, busy, t) (ap (reply call.done) (recount s.log)))
-    (λ t. rw (act-purge s, busy, t)
-    (ap (λ g. reply call.done (table.with_log g (original_of s))) (purged-log s.log sound.log s.stored)
+    (λ t. rw (act_purge s, busy, t) (ap (reply call.done) (recount s.log)))
+    (λ t. rw (act_purge s, busy, t)
+    (ap (λ g. reply call.done (table.with_log g (original_of s))) (purged_log s.log sound.log s.stored)
     ∙ ap (reply call.done) (recount _)))
   where
     -- something is open exactly where more are counted than are stored
@@ -185,4 +185,4 @@ purge-same s sound =
         ∙ sym t)
 
     recount : (g : changes.ChangedAttrs) → table.with_log (log_of g) (original_of s) ≡ original_of (with_log s g)
-    recount g = same-table refl refl (counted_is s ∙ sym (counted_is (with_log s g))) refl refl refl refl refl
+    recount g = same_table refl refl (counted_is s ∙ sym (counted_is (with_log s g))) refl refl refl refl refl

@@ -13,26 +13,26 @@ use Rattle.entries.specs.declared.Coarser.{Coarser}
 use Rattle.entries.specs.declared.Coarser.TheVariants.{To, Nothing}
 use Rattle.entries.specs.Paths as paths
 use Rattle.entries.specs.Paths.{entry, wild_endpoint, wild_cluster, wild_attr, field_covers, over, under, up_to, above, since, candidate}
-use Rattle.entries.proofs.Covering.{over-covers, under-covers, up_to-at, above_at, field-covers-at, covers_at, field-matches-at, since_at, candidate-cluster, candidate-endpoint}
+use Rattle.entries.proofs.Covering.{over_covers, under_covers, up_to_at, above_at, field_covers_at, covers_at, field_matches_at, since_at, candidate_cluster, candidate_endpoint}
 use Rattle.original.specs.Entries.{cov, covers, matches, coarsen}
 
 -- ---- covering and matching
 
-cov-same : (wild a b : ℕ) → cov a (eqb a wild) b (eqb b wild) ≡ field_covers wild a b
-cov-same wild a b = go (eqb a wild) (eqb b wild) ∙ sym (field-covers-at wild a b)
+cov_same : (wild a b : ℕ) → cov a (eqb a wild) b (eqb b wild) ≡ field_covers wild a b
+cov_same wild a b = go (eqb a wild) (eqb b wild) ∙ sym (field_covers_at wild a b)
   where
     go : (u v : Bool) → cond u true (cond v false (eqb a b)) ≡ (u || (not v && eqb a b))
     go true v = refl
     go false true = refl
     go false false = refl
 
-pub covers-same : (x y : ChangedAttr) → covers x y ≡ paths.covers x y
+pub covers_same : (x y : ChangedAttr) → covers x y ≡ paths.covers x y
 unfolding covers
-covers-same x y =
+covers_same x y =
     rw (
-      cov-same wild_endpoint x.endpoint y.endpoint,
-      cov-same wild_cluster x.cluster y.cluster,
-      cov-same wild_attr x.attr y.attr,
+      cov_same wild_endpoint x.endpoint y.endpoint,
+      cov_same wild_cluster x.cluster y.cluster,
+      cov_same wild_attr x.attr y.attr,
     )
     (and_assoc (field_covers wild_endpoint x.endpoint y.endpoint) (field_covers wild_cluster x.cluster y.cluster)
     (field_covers wild_attr x.attr y.attr)
@@ -40,27 +40,27 @@ covers-same x y =
 
 -- the entries that a note or a coarser entry covers, and those that cover it
 pub under_same : (n : ChangedAttr) → covers n ≡ under n
-under_same n = fun_ext (λ x. covers-same n x ∙ sym (under-covers n x))
+under_same n = fun_ext (λ x. covers_same n x ∙ sym (under_covers n x))
 
-pub over-same : (n : ChangedAttr) → (λ x. covers x n) ≡ over n
-over-same n = fun_ext (λ x. covers-same x n ∙ sym (over-covers n x))
+pub over_same : (n : ChangedAttr) → (λ x. covers x n) ≡ over n
+over_same n = fun_ext (λ x. covers_same x n ∙ sym (over_covers n x))
 
-pub since-same : (e c a s : ℕ) → (λ x. ltb s x.identity && matches x e c a) ≡ since (entry e c a s)
+pub since_same : (e c a s : ℕ) → (λ x. ltb s x.identity && matches x e c a) ≡ since (entry e c a s)
 unfolding matches
-since-same e c a s =
+since_same e c a s =
     fun_ext
     (λ x. rw (
       since_at (entry e c a s) x,
-      field-matches-at wild_endpoint x.endpoint e,
-      field-matches-at wild_cluster x.cluster c,
-      field-matches-at wild_attr x.attr a,
+      field_matches_at wild_endpoint x.endpoint e,
+      field_matches_at wild_cluster x.cluster c,
+      field_matches_at wild_attr x.attr a,
     ) (rw (and_assoc (eqb x.endpoint wild_endpoint || eqb x.endpoint e))))
 
 pub above_same : (s : ℕ) → (λ x. ltb s x.identity) ≡ above s
 above_same s = fun_ext (λ x. sym (above_at s x))
 
-pub up-to-same : (t : ℕ) → (λ x. leb x.identity t) ≡ up_to t
-up-to-same t = fun_ext (λ x. sym (up_to-at t x))
+pub up_to_same : (t : ℕ) → (λ x. leb x.identity t) ≡ up_to t
+up_to_same t = fun_ext (λ x. sym (up_to_at t x))
 
 -- ---- coarsening
 
@@ -77,10 +77,10 @@ either : (b : Bool) (by : ChangedAttr) → cond b none (just by) ≡ as_option (
 either true by = refl
 either false by = refl
 
-pub coarsen-same : (level : Level) (x : ChangedAttr) → coarsen (number level) x ≡ as_option (candidate level x)
+pub coarsen_same : (level : Level) (x : ChangedAttr) → coarsen (number level) x ≡ as_option (candidate level x)
 unfolding coarsen
-coarsen-same Cluster x =
-    rw (candidate-cluster x)
+coarsen_same Cluster x =
+    rw (candidate_cluster x)
     (either (eqb x.endpoint wild_endpoint || eqb x.cluster wild_cluster) (entry x.endpoint x.cluster wild_attr 0))
-coarsen-same Endpoint x =
-    rw (candidate-endpoint x) (either (eqb x.endpoint wild_endpoint) (entry x.endpoint wild_cluster wild_attr 0))
+coarsen_same Endpoint x =
+    rw (candidate_endpoint x) (either (eqb x.endpoint wild_endpoint) (entry x.endpoint wild_cluster wild_attr 0))

@@ -15,7 +15,7 @@ use lib.ListN.{length, get_elem?}
 use Rattle.lists.specs.Search.{count}
 use Rattle.lists.specs.Removal.{last_of, init_of, refilled, sweep_for, sweep}
 use Rattle.lists.proofs.Bools.{split}
-use Rattle.lists.proofs.Removals.{length-refilled}
+use Rattle.lists.proofs.Removals.{length_refilled}
 use Rattle.entries.specs.declared.ChangedAttr.{ChangedAttr}
 use Rattle.entries.specs.declared.Level.{Level}
 use Rattle.entries.specs.declared.Coarser.{Coarser}
@@ -23,12 +23,12 @@ use Rattle.entries.specs.declared.Coarser.TheVariants.{To, Nothing}
 use Rattle.entries.specs.Paths.{blank, under, candidate}
 use Rattle.notes.specs.declared.Group.{Group}
 use Rattle.notes.specs.Notes.{sized, largest_from, largest, newest, folded}
-use Rattle.notes.proofs.Cases.{folded-is, newest-nil, newest-cons, largest-is, largest-over, largest-more}
+use Rattle.notes.proofs.Cases.{folded_is, newest_nil, newest_cons, largest_is, largest_over, largest_more}
 use Rattle.original.specs.Std.{swap_remove}
 use Rattle.original.specs.Entries.{covers, coarsen}
 use Rattle.original.specs.Log.{best_pivot, collapse, coarsened_by, promoted, promote_largest_group}
-use Rattle.original.proofs.Vectors.{swap-first, swap-later}
-use Rattle.original.proofs.SameEntries.{under_same, number, as_option, coarsen-same}
+use Rattle.original.proofs.Vectors.{swap_first, swap_later}
+use Rattle.original.proofs.SameEntries.{under_same, number, as_option, coarsen_same}
 
 -- ---- the loop that collapses a group
 
@@ -41,93 +41,93 @@ module _ (by : ChangedAttr) where
   abbrev greater : ℕ → ChangedAttr → ℕ
   greater m x = cond (ltb m x.identity) x.identity m
 
-  collapse-past : (n i m : ℕ) (l : List ChangedAttr) → get_elem? l i ≡ none → collapse n by i m l ≡ (m, l)
+  collapse_past : (n i m : ℕ) (l : List ChangedAttr) → get_elem? l i ≡ none → collapse n by i m l ≡ (m, l)
   unfolding collapse
-  collapse-past zero i m l e = refl
-  collapse-past (suc n) i m l e = rw (e, collapse)
+  collapse_past zero i m l e = refl
+  collapse_past (suc n) i m l e = rw (e, collapse)
 
-  collapse-out : (n i m : ℕ) (l : List ChangedAttr) {x : ChangedAttr} → get_elem? l i ≡ just x → covers by x ≡ true
+  collapse_out : (n i m : ℕ) (l : List ChangedAttr) {x : ChangedAttr} → get_elem? l i ≡ just x → covers by x ≡ true
       → collapse (suc n) by i m l ≡ collapse n by i (greater m x) (swap_remove i l)
   unfolding collapse
-  collapse-out n i m l e t = rw (e, collapse) (rw t)
+  collapse_out n i m l e t = rw (e, collapse) (rw t)
 
-  collapse-stays : (n i m : ℕ) (l : List ChangedAttr) {x : ChangedAttr} → get_elem? l i ≡ just x → covers by x ≡ false
+  collapse_stays : (n i m : ℕ) (l : List ChangedAttr) {x : ChangedAttr} → get_elem? l i ≡ just x → covers by x ≡ false
       → collapse (suc n) by i m l ≡ collapse n by (suc i) m l
   unfolding collapse
-  collapse-stays n i m l e t = rw (e, collapse) (rw t)
+  collapse_stays n i m l e t = rw (e, collapse) (rw t)
 
-  collapse-later : (n i m : ℕ) (x : ChangedAttr) (l : List ChangedAttr) → collapse n by (suc i) m (x ∷ l) ≡ behind x (collapse n by i m l)
+  collapse_later : (n i m : ℕ) (x : ChangedAttr) (l : List ChangedAttr) → collapse n by (suc i) m (x ∷ l) ≡ behind x (collapse n by i m l)
   unfolding collapse
-  collapse-later zero i m x l = refl
-  collapse-later (suc n) i m x [] = refl
-  collapse-later (suc n) i m x (y ∷ ys) = go (get_elem? (y ∷ ys) i) refl (collapse-later n)
+  collapse_later zero i m x l = refl
+  collapse_later (suc n) i m x [] = refl
+  collapse_later (suc n) i m x (y ∷ ys) = go (get_elem? (y ∷ ys) i) refl (collapse_later n)
     where
       go : (o : Option ChangedAttr) → get_elem? (y ∷ ys) i ≡ o
           → ((i m : ℕ) (x : ChangedAttr) (l : List ChangedAttr) → collapse n by (suc i) m (x ∷ l) ≡ behind x (collapse n by i m l))
           → collapse (suc n) by (suc i) m (x ∷ y ∷ ys) ≡ behind x (collapse (suc n) by i m (y ∷ ys))
-      go none e ih = rw (collapse-past (suc n) (suc i) m (x ∷ y ∷ ys) e, collapse-past (suc n) i m (y ∷ ys) e)
+      go none e ih = rw (collapse_past (suc n) (suc i) m (x ∷ y ∷ ys) e, collapse_past (suc n) i m (y ∷ ys) e)
       go (just z) e ih =
           split (covers by z)
-          (λ t. collapse-out n (suc i) m (x ∷ y ∷ ys) e t
-          ∙ ap (collapse n by (suc i) (greater m z)) (swap-later i x y ys)
+          (λ t. collapse_out n (suc i) m (x ∷ y ∷ ys) e t
+          ∙ ap (collapse n by (suc i) (greater m z)) (swap_later i x y ys)
           ∙ ih i (greater m z) x (swap_remove i (y ∷ ys))
-          ∙ ap (behind x) (sym (collapse-out n i m (y ∷ ys) e t)))
-          (λ t. collapse-stays n (suc i) m (x ∷ y ∷ ys) e t
+          ∙ ap (behind x) (sym (collapse_out n i m (y ∷ ys) e t)))
+          (λ t. collapse_stays n (suc i) m (x ∷ y ∷ ys) e t
           ∙ ih (suc i) m x (y ∷ ys)
-          ∙ ap (behind x) (sym (collapse-stays n i m (y ∷ ys) e t)))
+          ∙ ap (behind x) (sym (collapse_stays n i m (y ∷ ys) e t)))
 
   -- the greatest identity does not depend on the order
-  newest-last : (x : ChangedAttr) (l : List ChangedAttr)
+  newest_last : (x : ChangedAttr) (l : List ChangedAttr)
       → max (cond (under by (last_of x l)) (last_of x l).identity 0) (newest (under by) (init_of x l))
       ≡ max (cond (under by x) x.identity 0) (newest (under by) l)
   unfolding last_of init_of
-  newest-last x [] = refl
-  newest-last x (y ∷ ys) =
-      let r = newest-last y ys in
-      rw (newest-cons (under by) x (init_of y ys), newest-cons (under by) y ys) (omega arith)
+  newest_last x [] = refl
+  newest_last x (y ∷ ys) =
+      let r = newest_last y ys in
+      rw (newest_cons (under by) x (init_of y ys), newest_cons (under by) y ys) (omega arith)
 
-  newest-refilled : (l : List ChangedAttr) → newest (under by) (refilled l) ≡ newest (under by) l
+  newest_refilled : (l : List ChangedAttr) → newest (under by) (refilled l) ≡ newest (under by) l
   unfolding refilled
-  newest-refilled [] = refl
-  newest-refilled (x ∷ xs) =
-      newest-cons (under by) (last_of x xs) (init_of x xs) ∙ newest-last x xs ∙ sym (newest-cons (under by) x xs)
+  newest_refilled [] = refl
+  newest_refilled (x ∷ xs) =
+      newest_cons (under by) (last_of x xs) (init_of x xs) ∙ newest_last x xs ∙ sym (newest_cons (under by) x xs)
 
-  greater-is : (m : ℕ) (x : ChangedAttr) → greater m x ≡ max m x.identity
-  greater-is m x =
+  greater_is : (m : ℕ) (x : ChangedAttr) → greater m x ≡ max m x.identity
+  greater_is m x =
       split (ltb m x.identity)
       (λ t. rw t (omega (arith, ltb-true m x.identity t)))
       (λ t. rw t (omega (arith, ltb-false m x.identity t)))
 
-  collapse-for : (n m : ℕ) (l : List ChangedAttr) → length l ≤ n
+  collapse_for : (n m : ℕ) (l : List ChangedAttr) → length l ≤ n
       → collapse n by 0 m l ≡ (max m (newest (under by) l), sweep_for n (under by) l)
   unfolding collapse sweep_for
-  collapse-for zero m [] h = let e : m ≡ max m (newest (under by) []) = omega (arith, newest-nil (under by)) in ap (λ k. (k, [])) e
-  collapse-for zero m (x ∷ xs) h = absurd (omega arith)
-  collapse-for (suc n) m [] h = let e : m ≡ max m (newest (under by) []) = omega (arith, newest-nil (under by)) in ap (λ k. (k, [])) e
-  collapse-for (suc n) m (x ∷ xs) h =
+  collapse_for zero m [] h = let e : m ≡ max m (newest (under by) []) = omega (arith, newest_nil (under by)) in ap (λ k. (k, [])) e
+  collapse_for zero m (x ∷ xs) h = absurd (omega arith)
+  collapse_for (suc n) m [] h = let e : m ≡ max m (newest (under by) []) = omega (arith, newest_nil (under by)) in ap (λ k. (k, [])) e
+  collapse_for (suc n) m (x ∷ xs) h =
       let same = ap (λ p. p x) (under_same by) in
       let k : length xs ≤ n = omega arith in
       split (under by x)
-      (λ t. collapse-out n 0 m (x ∷ xs) refl (same ∙ t)
-      ∙ ap (collapse n by 0 (greater m x)) (swap-first x xs)
-      ∙ collapse-for n (greater m x) (refilled xs) (omega (arith, length-refilled xs))
-      ∙ rw (newest-cons (under by) x xs, t, sweep_for)
+      (λ t. collapse_out n 0 m (x ∷ xs) refl (same ∙ t)
+      ∙ ap (collapse n by 0 (greater m x)) (swap_first x xs)
+      ∙ collapse_for n (greater m x) (refilled xs) (omega (arith, length_refilled xs))
+      ∙ rw (newest_cons (under by) x xs, t, sweep_for)
       (let e : max (greater m x) (newest (under by) (refilled xs)) ≡ max m (max x.identity (newest (under by) xs)) =
-      omega (arith, greater-is m x, newest-refilled xs) in
+      omega (arith, greater_is m x, newest_refilled xs) in
       ap (λ k. (k, sweep_for n (under by) (refilled xs))) e))
-      (λ t. collapse-stays n 0 m (x ∷ xs) refl (same ∙ t)
-      ∙ collapse-later n 0 m x xs
-      ∙ ap (behind x) (collapse-for n m xs k)
-      ∙ rw (newest-cons (under by) x xs, t, sweep_for)
+      (λ t. collapse_stays n 0 m (x ∷ xs) refl (same ∙ t)
+      ∙ collapse_later n 0 m x xs
+      ∙ ap (behind x) (collapse_for n m xs k)
+      ∙ rw (newest_cons (under by) x xs, t, sweep_for)
       (let e : max m (newest (under by) xs) ≡ max m (max 0 (newest (under by) xs)) = omega arith in
       ap (λ k. (k, x ∷ sweep_for n (under by) xs)) e))
 
   -- the covered entries go, and the greatest identity of them is kept
-  collapse-is : (l : List ChangedAttr) → collapse (length l) by 0 0 l ≡ (newest (under by) l, sweep (under by) l)
+  collapse_is : (l : List ChangedAttr) → collapse (length l) by 0 0 l ≡ (newest (under by) l, sweep (under by) l)
   unfolding sweep
-  collapse-is l =
+  collapse_is l =
       let e : max 0 (newest (under by) l) ≡ newest (under by) l = omega arith in
-      collapse-for (length l) 0 l (le_refl (length l)) ∙ ap (λ k. (k, sweep_for (length l) (under by) l)) e
+      collapse_for (length l) 0 l (le_refl (length l)) ∙ ap (λ k. (k, sweep_for (length l) (under by) l)) e
 
 -- ---- the largest group
 
@@ -145,14 +145,14 @@ module _ (level : Level) (l : List ChangedAttr) where
   same_size c none best h = h.0
   same_size c (just pivot) best h = h.0
 
-  pivot-is : (rest : List ChangedAttr) (c : ℕ) (b : Option ChangedAttr) (best : Group) → Agrees c b best
+  pivot_is : (rest : List ChangedAttr) (c : ℕ) (b : Option ChangedAttr) (best : Group) → Agrees c b best
       → coarsened_by (number level) (best_pivot (number level) l rest c b)
       ≡ cond (ltb 1 (largest_from level l best rest).size) (just (largest_from level l best rest).by) none
   unfolding best_pivot
-  pivot-is [] c none best h = rw (largest-over level l best, h.0, h.1)
-  pivot-is [] c (just pivot) best h = rw (largest-over level l best, h.0, lt-ltb 1 c h.1.0) h.1.1
-  pivot-is (x ∷ rest) c b best h =
-      rw (largest-more level l best x rest) (go (candidate level x) (coarsen-same level x) (pivot-is rest))
+  pivot_is [] c none best h = rw (largest_over level l best, h.0, h.1)
+  pivot_is [] c (just pivot) best h = rw (largest_over level l best, h.0, lt-ltb 1 c h.1.0) h.1.1
+  pivot_is (x ∷ rest) c b best h =
+      rw (largest_more level l best x rest) (go (candidate level x) (coarsen_same level x) (pivot_is rest))
     where
       go : (k : Coarser) → coarsen (number level) x ≡ as_option k
           → ((c : ℕ) (b : Option ChangedAttr) (best : Group) → Agrees c b best
@@ -173,12 +173,12 @@ module _ (level : Level) (l : List ChangedAttr) where
           (λ t. rw (e, size, t, best-size ∙ t, best_pivot) (ih c b best h))
 
   -- one fold: the group goes and its candidate comes to the end, or there is none
-  pub group-is : promote_largest_group (number level) l ≡ cond (ltb 1 (largest level l).size) (just (folded (largest level l).by l)) none
+  pub group_is : promote_largest_group (number level) l ≡ cond (ltb 1 (largest level l).size) (just (folded (largest level l).by l)) none
   unfolding promote_largest_group
-  group-is =
-      rw (pivot-is l 1 none (record { by = blank; size = 1 }) (refl, refl), ← largest-is level l)
+  group_is =
+      rw (pivot_is l 1 none (record { by = blank; size = 1 }) (refl, refl), ← largest_is level l)
       (go (ltb 1 (largest level l).size) (largest level l).by)
     where
       go : (b : Bool) (by : ChangedAttr) → promoted (cond b (just by) none) l ≡ cond b (just (folded by l)) none
-      go true by = rw (collapse-is by l, folded-is by l)
+      go true by = rw (collapse_is by l, folded_is by l)
       go false by = refl

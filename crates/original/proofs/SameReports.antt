@@ -9,17 +9,17 @@ use native.Mathlib.Omega.{arith}
 use Rattle.lists.specs.Search.{some, first_by}
 use Rattle.lists.specs.Removal.{take_out}
 use Rattle.lists.proofs.Bools.{split}
-use Rattle.lists.proofs.Counts.{count-taken, count-every}
-use Rattle.lists.proofs.Maps.{some-map, first-map, taken-map}
+use Rattle.lists.proofs.Counts.{count_taken, count_every}
+use Rattle.lists.proofs.Maps.{some_map, first_map, taken_map}
 use Rattle.changes.specs.Logs.{watermark_of}
 use Rattle.subscription.specs.declared.Settings.{Settings}
 use Rattle.subscription.specs.Life.{blank}
-use Rattle.subscription.proofs.Laws.{opened-reporting}
-use Rattle.subscription.proofs.Cases.{opened-is}
+use Rattle.subscription.proofs.Laws.{opened_reporting}
+use Rattle.subscription.proofs.Cases.{opened_is}
 use Rattle.rules.specs.States.{State, counted}
 use Rattle.rules.specs.Calls as call
 use Rattle.rules.specs.Machine.{with_ones, ready, next_up, opened_in, act}
-use Rattle.rules.proofs.Acts.{ready-is, act-report, reported-one, reported-none}
+use Rattle.rules.proofs.Acts.{ready_is, act_report, reported_one, reported_none}
 use Rattle.rules.proofs.Clauses.{counted_is}
 use Rattle.original.specs.Std.{position}
 use Rattle.original.specs.Log.{watermark}
@@ -28,32 +28,32 @@ use Rattle.original.specs.Contexts.{context}
 use Rattle.original.specs.Table.{Subscriptions, with_inner, with_contexts, swap_removed, report, any_reportable}
 use Rattle.original.specs.Calls.{reply, call_on}
 use Rattle.original.specs.Likeness.{subscription_of, context_of, reporting_of, cancelled_of, log_of, original_of}
-use Rattle.original.proofs.Alike.{reply_of, same-table, Fit}
-use Rattle.original.proofs.Opens.{slot-report}
-use Rattle.original.proofs.SameNotes.{watermark-is}
-use Rattle.original.proofs.SameSubscription.{reportable-same, opened-same}
-use Rattle.original.proofs.Vectors.{first-removed, position_some}
+use Rattle.original.proofs.Alike.{reply_of, same_table, Fit}
+use Rattle.original.proofs.Opens.{slot_report}
+use Rattle.original.proofs.SameNotes.{watermark_is}
+use Rattle.original.proofs.SameSubscription.{reportable_same, opened_same}
+use Rattle.original.proofs.Vectors.{first_removed, position_some}
 
 module _ (at : Settings) (s : State) where
   -- the Rust's test, of a stored one
   abbrev test : Subscription → Bool
   test = is_reportable at.now.ms (log_of s.log) at.events at.kind at.all
 
-  test-same : (λ x. test (subscription_of x)) ≡ ready at s
-  test-same = fun_ext (λ x. reportable-same x s.log at.events at.kind at.now at.all ∙ sym (ready-is at s x))
+  test_same : (λ x. test (subscription_of x)) ≡ ready at s
+  test_same = fun_ext (λ x. reportable_same x s.log at.events at.kind at.now at.all ∙ sym (ready_is at s x))
 
   some_same : some test (map subscription_of s.stored) ≡ some (ready at s) s.stored
-  some_same = some-map subscription_of test s.stored ∙ ap (λ p. some p s.stored) test-same
+  some_same = some_map subscription_of test s.stored ∙ ap (λ p. some p s.stored) test_same
 
   -- the one found and what is left
-  found-same : swap_removed (position test (map subscription_of s.stored)) (map subscription_of s.stored)
+  found_same : swap_removed (position test (map subscription_of s.stored)) (map subscription_of s.stored)
       ≡ cond (some (ready at s) s.stored)
       (just (subscription_of (next_up at s), map subscription_of (take_out (ready at s) s.stored))) none
-  found-same =
-      first-removed test (subscription_of blank) (map subscription_of s.stored)
-      ∙ rw (some_same, first-map subscription_of test blank s.stored, taken-map subscription_of test s.stored)
+  found_same =
+      first_removed test (subscription_of blank) (map subscription_of s.stored)
+      ∙ rw (some_same, first_map subscription_of test blank s.stored, taken_map subscription_of test s.stored)
       (ap (λ p. cond (some (ready at s) s.stored)
-      (just (subscription_of (first_by p blank s.stored), map subscription_of (take_out p s.stored))) none) test-same)
+      (just (subscription_of (first_by p blank s.stored), map subscription_of (take_out p s.stored))) none) test_same)
 
   -- whether anybody is reportable
   pub any_same : any_reportable at (original_of s) ≡ some (ready at s) s.stored
@@ -66,59 +66,59 @@ module _ (at : Settings) (s : State) where
       with_inner (counted s) (map subscription_of (take_out (ready at s) s.stored)) (just (subscription_of (next_up at s)))
       (cancelled_of s.cancel) (original_of s)
 
-  pub report-none : some (ready at s) s.stored ≡ false → report at (original_of s) ≡ none
+  pub report_none : some (ready at s) s.stored ≡ false → report at (original_of s) ≡ none
   unfolding report original_of
-  report-none e = rw (found-same, e)
+  report_none e = rw (found_same, e)
 
   module _ (fit : Fit s) (found : some (ready at s) s.stored ≡ true) where
-    context-same : context (subscription_of (next_up at s)) (watermark (log_of s.log)) at.events at.now.ms
+    context_same : context (subscription_of (next_up at s)) (watermark (log_of s.log)) at.events at.now.ms
         ≡ context_of (opened_in at s (next_up at s))
-    context-same =
-        rw (watermark-is s.log fit.sound.log fit.identities)
-        (sym (opened-same (next_up at s) (watermark_of s.log) at.events at.now))
+    context_same =
+        rw (watermark_is s.log fit.sound.log fit.identities)
+        (sym (opened_same (next_up at s) (watermark_of s.log) at.events at.now))
 
-    pub report-one : report at (original_of s) ≡ just (context_of (opened_in at s (next_up at s)), left)
+    pub report_one : report at (original_of s) ≡ just (context_of (opened_in at s (next_up at s)), left)
     unfolding report original_of
-    report-one = rw (found-same, found) (ap (λ c. just (c, left)) context-same)
+    report_one = rw (found_same, found) (ap (λ c. just (c, left)) context_same)
 
     -- the state after it
     abbrev handed : State
     handed = with_ones s (take_out (ready at s) s.stored) (opened_in at s (next_up at s) ∷ s.opens)
 
     -- none comes or goes: what was stored is open
-    pub handed-counts : counted s ≡ counted handed
-    handed-counts =
+    pub handed_counts : counted s ≡ counted handed
+    handed_counts =
         omega (
           arith,
           counted_is s,
           counted_is handed,
-          count-taken (λ x. true) (ready at s) blank s.stored found,
-          count-every s.stored,
-          count-every (take_out (ready at s) s.stored),
+          count_taken (λ x. true) (ready at s) blank s.stored found,
+          count_every s.stored,
+          count_every (take_out (ready at s) s.stored),
         )
 
     -- the same subscription, with or without the values that its report opened with
-    pub opened-plain : subscription_of (opened_in at s (next_up at s)) ≡ subscription_of (next_up at s)
+    pub opened_plain : subscription_of (opened_in at s (next_up at s)) ≡ subscription_of (next_up at s)
     unfolding subscription_of
-    opened-plain = rw (opened-is (next_up at s) (watermark_of s.log) at.events at.now)
+    opened_plain = rw (opened_is (next_up at s) (watermark_of s.log) at.events at.now)
 
     slot_same : just (subscription_of (next_up at s)) ≡ reporting_of (opened_in at s (next_up at s) ∷ s.opens)
     slot_same =
         sym
-        (slot-report (opened_in at s (next_up at s)) s.opens (opened-reporting (next_up at s) (watermark_of s.log) at.events at.now)
-        ∙ ap just opened-plain)
+        (slot_report (opened_in at s (next_up at s)) s.opens (opened_reporting (next_up at s) (watermark_of s.log) at.events at.now)
+        ∙ ap just opened_plain)
 
     -- with the context in a caller's hands
-    pub left-same : with_contexts (context_of (opened_in at s (next_up at s)) ∷ map context_of s.opens) left ≡ original_of handed
+    pub left_same : with_contexts (context_of (opened_in at s (next_up at s)) ∷ map context_of s.opens) left ≡ original_of handed
     unfolding original_of
-    left-same = same-table refl refl handed-counts refl refl slot_same refl refl
+    left_same = same_table refl refl handed_counts refl refl slot_same refl refl
 
-  pub report-same : Fit s → call_on (call.report at) (original_of s) ≡ reply_of (act (call.report at) s)
+  pub report_same : Fit s → call_on (call.report at) (original_of s) ≡ reply_of (act (call.report at) s)
   unfolding call_on context_of subscription_of original_of
-  report-same fit =
+  report_same fit =
       split (some (ready at s) s.stored)
-      (λ t. rw (act-report at s, reported-one at s t, report-one fit t)
+      (λ t. rw (act_report at s, reported_one at s t, report_one fit t)
       (ap (λ x. reply (call.handed x.id x.rx)
-      (with_contexts (context_of (opened_in at s (next_up at s)) ∷ map context_of s.opens) left)) (opened-plain fit t)
-      ∙ ap (reply (call.handed (next_up at s).id (next_up at s).rx)) (left-same fit t)))
-      (λ t. rw (act-report at s, reported-none at s t, report-none t))
+      (with_contexts (context_of (opened_in at s (next_up at s)) ∷ map context_of s.opens) left)) (opened_plain fit t)
+      ∙ ap (reply (call.handed (next_up at s).id (next_up at s).rx)) (left_same fit t)))
+      (λ t. rw (act_report at s, reported_none at s t, report_none t))

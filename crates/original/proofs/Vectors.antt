@@ -19,83 +19,83 @@ use Rattle.original.specs.Table.{removed_at, swap_removed}
 module _ {A : Type 0} where
   -- ---- swap_remove
 
-  last-is : (x : A) (l : List A) (d : A) → get_or (x ∷ l) (length l) d ≡ last_of x l
+  last_is : (x : A) (l : List A) (d : A) → get_or (x ∷ l) (length l) d ≡ last_of x l
   unfolding last_of
-  last-is x [] d = refl
-  last-is x (y ∷ ys) d = last-is y ys d
+  last_is x [] d = refl
+  last_is x (y ∷ ys) d = last_is y ys d
 
-  init-is : (x : A) (l : List A) → take (length l) (x ∷ l) ≡ init_of x l
+  init_is : (x : A) (l : List A) → take (length l) (x ∷ l) ≡ init_of x l
   unfolding init_of
-  init-is x [] = refl
-  init-is x (y ∷ ys) = ap (λ l. x ∷ l) (init-is y ys)
+  init_is x [] = refl
+  init_is x (y ∷ ys) = ap (λ l. x ∷ l) (init_is y ys)
 
   -- of the first one
-  pub swap-first : (x : A) (l : List A) → swap_remove 0 (x ∷ l) ≡ refilled l
+  pub swap_first : (x : A) (l : List A) → swap_remove 0 (x ∷ l) ≡ refilled l
   unfolding swap_remove refilled
-  swap-first x [] = refl
-  swap-first x (y ∷ ys) = rw (last-is y ys x, init-is y ys)
+  swap_first x [] = refl
+  swap_first x (y ∷ ys) = rw (last_is y ys x, init_is y ys)
 
   -- of a later one: the first stays
-  pub swap-later : (i : ℕ) (x y : A) (l : List A) → swap_remove (suc i) (x ∷ y ∷ l) ≡ x ∷ swap_remove i (y ∷ l)
+  pub swap_later : (i : ℕ) (x y : A) (l : List A) → swap_remove (suc i) (x ∷ y ∷ l) ≡ x ∷ swap_remove i (y ∷ l)
   unfolding swap_remove
-  swap-later i x y l = rw (last-is y l x, last-is y l y)
+  swap_later i x y l = rw (last_is y l x, last_is y l y)
 
   -- ---- the loop over an index
 
-  while-nil : (n : ℕ) (p : A → Bool) (i : ℕ) → remove_while n p i [] ≡ []
+  while_nil : (n : ℕ) (p : A → Bool) (i : ℕ) → remove_while n p i [] ≡ []
   unfolding remove_while
-  while-nil zero p i = refl
-  while-nil (suc n) p i = refl
+  while_nil zero p i = refl
+  while_nil (suc n) p i = refl
 
-  while-past : (n : ℕ) (p : A → Bool) (i : ℕ) (l : List A) → get_elem? l i ≡ none → remove_while n p i l ≡ l
+  while_past : (n : ℕ) (p : A → Bool) (i : ℕ) (l : List A) → get_elem? l i ≡ none → remove_while n p i l ≡ l
   unfolding remove_while
-  while-past zero p i l e = refl
-  while-past (suc n) p i l e = rw (e, remove_while)
+  while_past zero p i l e = refl
+  while_past (suc n) p i l e = rw (e, remove_while)
 
-  while-out : (n : ℕ) (p : A → Bool) (i : ℕ) (l : List A) {x : A} → get_elem? l i ≡ just x → p x ≡ true
+  while_out : (n : ℕ) (p : A → Bool) (i : ℕ) (l : List A) {x : A} → get_elem? l i ≡ just x → p x ≡ true
       → remove_while (suc n) p i l ≡ remove_while n p i (swap_remove i l)
   unfolding remove_while
-  while-out n p i l e t = rw (e, remove_while) (rw t)
+  while_out n p i l e t = rw (e, remove_while) (rw t)
 
-  while-stays : (n : ℕ) (p : A → Bool) (i : ℕ) (l : List A) {x : A} → get_elem? l i ≡ just x → p x ≡ false
+  while_stays : (n : ℕ) (p : A → Bool) (i : ℕ) (l : List A) {x : A} → get_elem? l i ≡ just x → p x ≡ false
       → remove_while (suc n) p i l ≡ remove_while n p (suc i) l
   unfolding remove_while
-  while-stays n p i l e t = rw (e, remove_while) (rw t)
+  while_stays n p i l e t = rw (e, remove_while) (rw t)
 
   -- what stands before the index is left alone
-  while-later : (n : ℕ) (p : A → Bool) (i : ℕ) (x : A) (l : List A) → remove_while n p (suc i) (x ∷ l) ≡ x ∷ remove_while n p i l
+  while_later : (n : ℕ) (p : A → Bool) (i : ℕ) (x : A) (l : List A) → remove_while n p (suc i) (x ∷ l) ≡ x ∷ remove_while n p i l
   unfolding remove_while
-  while-later zero p i x l = refl
-  while-later (suc n) p i x [] = refl
-  while-later (suc n) p i x (y ∷ ys) = go (get_elem? (y ∷ ys) i) refl (while-later n p)
+  while_later zero p i x l = refl
+  while_later (suc n) p i x [] = refl
+  while_later (suc n) p i x (y ∷ ys) = go (get_elem? (y ∷ ys) i) refl (while_later n p)
     where
       go : (o : Option A) → get_elem? (y ∷ ys) i ≡ o
           → ((i : ℕ) (x : A) (l : List A) → remove_while n p (suc i) (x ∷ l) ≡ x ∷ remove_while n p i l)
           → remove_while (suc n) p (suc i) (x ∷ y ∷ ys) ≡ x ∷ remove_while (suc n) p i (y ∷ ys)
-      go none e ih = rw (while-past (suc n) p (suc i) (x ∷ y ∷ ys) e, while-past (suc n) p i (y ∷ ys) e)
+      go none e ih = rw (while_past (suc n) p (suc i) (x ∷ y ∷ ys) e, while_past (suc n) p i (y ∷ ys) e)
       go (just z) e ih =
           split (p z)
-          (λ t. while-out n p (suc i) (x ∷ y ∷ ys) e t
-          ∙ ap (remove_while n p (suc i)) (swap-later i x y ys)
+          (λ t. while_out n p (suc i) (x ∷ y ∷ ys) e t
+          ∙ ap (remove_while n p (suc i)) (swap_later i x y ys)
           ∙ ih i x (swap_remove i (y ∷ ys))
-          ∙ ap (λ l. x ∷ l) (sym (while-out n p i (y ∷ ys) e t)))
-          (λ t. while-stays n p (suc i) (x ∷ y ∷ ys) e t
+          ∙ ap (λ l. x ∷ l) (sym (while_out n p i (y ∷ ys) e t)))
+          (λ t. while_stays n p (suc i) (x ∷ y ∷ ys) e t
           ∙ ih (suc i) x (y ∷ ys)
-          ∙ ap (λ l. x ∷ l) (sym (while-stays n p i (y ∷ ys) e t)))
+          ∙ ap (λ l. x ∷ l) (sym (while_stays n p i (y ∷ ys) e t)))
 
-  while-for : (n : ℕ) (p : A → Bool) (l : List A) → remove_while n p 0 l ≡ sweep_for n p l
+  while_for : (n : ℕ) (p : A → Bool) (l : List A) → remove_while n p 0 l ≡ sweep_for n p l
   unfolding remove_while sweep_for
-  while-for zero p l = refl
-  while-for (suc n) p [] = refl
-  while-for (suc n) p (x ∷ xs) =
+  while_for zero p l = refl
+  while_for (suc n) p [] = refl
+  while_for (suc n) p (x ∷ xs) =
       split (p x)
-      (λ t. rw (t, sweep_for) (ap (remove_while n p 0) (swap-first x xs) ∙ while-for n p (refilled xs)))
-      (λ t. rw (t, sweep_for) (while-later n p 0 x xs ∙ ap (λ l. x ∷ l) (while-for n p xs)))
+      (λ t. rw (t, sweep_for) (ap (remove_while n p 0) (swap_first x xs) ∙ while_for n p (refilled xs)))
+      (λ t. rw (t, sweep_for) (while_later n p 0 x xs ∙ ap (λ l. x ∷ l) (while_for n p xs)))
 
   -- it is a sweep
-  pub while-sweeps : (p : A → Bool) (l : List A) → remove_while (length l) p 0 l ≡ sweep p l
+  pub while_sweeps : (p : A → Bool) (l : List A) → remove_while (length l) p 0 l ≡ sweep p l
   unfolding sweep
-  while-sweeps p l = while-for (length l) p l
+  while_sweeps p l = while_for (length l) p l
 
   -- ---- position, and swap_remove of what it finds
 
@@ -103,27 +103,27 @@ module _ {A : Type 0} where
   abbrev behind : A → A × List A → A × List A
   behind x r = (r.0, x ∷ r.1)
 
-  removed-later : (x : A) (l : List A) (o : Option ℕ)
+  removed_later : (x : A) (l : List A) (o : Option ℕ)
       → swap_removed (map_some suc o) (x ∷ l) ≡ map_some (behind x) (swap_removed o l)
   unfolding swap_remove
-  removed-later x l none = refl
-  removed-later x [] (just i) = refl
-  removed-later x (y ∷ ys) (just i) = go (get_elem? (y ∷ ys) i)
+  removed_later x l none = refl
+  removed_later x [] (just i) = refl
+  removed_later x (y ∷ ys) (just i) = go (get_elem? (y ∷ ys) i)
     where
       go : (o : Option A)
           → removed_at o (swap_remove (suc i) (x ∷ y ∷ ys)) ≡ map_some (behind x) (removed_at o (swap_remove i (y ∷ ys)))
       go none = refl
-      go (just z) = ap (λ l. just (z, l)) (swap-later i x y ys)
+      go (just z) = ap (λ l. just (z, l)) (swap_later i x y ys)
 
   -- the first that the test holds of is taken out
-  pub first-removed : (p : A → Bool) (d : A) (l : List A)
+  pub first_removed : (p : A → Bool) (d : A) (l : List A)
       → swap_removed (position p l) l ≡ cond (some p l) (just (first_by p d l, take_out p l)) none
   unfolding position some first_by take_out
-  first-removed p d [] = refl
-  first-removed p d (x ∷ xs) =
+  first_removed p d [] = refl
+  first_removed p d (x ∷ xs) =
       split (p x)
-      (λ t. rw (t, first_by, take_out) (ap (λ l. just (x, l)) (swap-first x xs)))
-      (λ t. rw (t, first_by, take_out) (removed-later x xs (position p xs) ∙ ap (map_some (behind x)) (first-removed p d xs) ∙ go (some p xs)))
+      (λ t. rw (t, first_by, take_out) (ap (λ l. just (x, l)) (swap_first x xs)))
+      (λ t. rw (t, first_by, take_out) (removed_later x xs (position p xs) ∙ ap (map_some (behind x)) (first_removed p d xs) ∙ go (some p xs)))
     where
       go : (b : Bool)
           → map_some (behind x) (cond b (just (first_by p d xs, take_out p xs)) none)
@@ -147,13 +147,13 @@ module _ {A : Type 0} where
   found_is p d [] = refl
   found_is p d (x ∷ xs) = split (p x) (λ t. rw (t, first_by)) (λ t. rw (t, first_by) (found_is p d xs))
 
-  pub found-changed : (p : A → Bool) (f : A → A) (l : List A) → find_mut p f l ≡ cond (some p l) (just (change_first p f l)) none
+  pub found_changed : (p : A → Bool) (f : A → A) (l : List A) → find_mut p f l ≡ cond (some p l) (just (change_first p f l)) none
   unfolding find_mut some change_first
-  found-changed p f [] = refl
-  found-changed p f (x ∷ xs) =
+  found_changed p f [] = refl
+  found_changed p f (x ∷ xs) =
       split (p x)
       (λ t. rw (t, change_first))
-      (λ t. rw (t, change_first) (ap (map_some (λ l. x ∷ l)) (found-changed p f xs) ∙ go (some p xs)))
+      (λ t. rw (t, change_first) (ap (map_some (λ l. x ∷ l)) (found_changed p f xs) ∙ go (some p xs)))
     where
       go : (b : Bool)
           → map_some (λ l. x ∷ l) (cond b (just (change_first p f xs)) none) ≡ cond b (just (x ∷ change_first p f xs)) none
@@ -163,11 +163,11 @@ module _ {A : Type 0} where
 module _ {A B : Type 0} where
   -- ---- the least
 
-  pub least-is : (f : A → B) (g : B → ℕ) (m : ℕ) (l : List A) → min_from m (map g (map f l)) ≡ least_by (λ x. g (f x)) m l
+  pub least_is : (f : A → B) (g : B → ℕ) (m : ℕ) (l : List A) → min_from m (map g (map f l)) ≡ least_by (λ x. g (f x)) m l
   unfolding min_from least_by
-  least-is f g m [] = refl
-  least-is f g m (x ∷ xs) =
+  least_is f g m [] = refl
+  least_is f g m (x ∷ xs) =
       let turn : min m (g (f x)) ≡ min (g (f x)) m = omega arith in
-      least-is f g (min m (g (f x))) xs
+      least_is f g (min m (g (f x))) xs
       ∙ ap (λ k. least_by (λ y. g (f y)) k xs) turn
       ∙ sym (least_start (λ y. g (f y)) (g (f x)) m xs)

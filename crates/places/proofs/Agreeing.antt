@@ -11,18 +11,18 @@ use Rattle.rules.specs.Machine.{Outcome, outcome, refusal, act, step}
 use Rattle.places.specs.Views.{view, kept, refusal_at}
 use Rattle.places.specs.Calls.{settled_by}
 use Rattle.rules.specs.Calls as call
-use Rattle.rules.proofs.Clauses.{refusal-kept}
-use Rattle.rules.proofs.Refusals.{refused-alters-nothing, unrefused-acts}
-use Rattle.places.proofs.Refusing.{state-kept, past-kept}
+use Rattle.rules.proofs.Clauses.{refusal_kept}
+use Rattle.rules.proofs.Refusals.{refused_alters_nothing, unrefused_acts}
+use Rattle.places.proofs.Refusing.{state_kept, past_kept}
 
 module _ {A : Type 0} (says : A → Outcome) (t : Table) (op : Op) (refuse : Refusal → A) (served : A)
     (refused : (why : Refusal) → says (refuse why) ≡ outcome (call.refused why) (view t)) where
-  by-refusal : (r : Option Refusal) → refusal op (view t) ≡ r → (r ≡ none → says served ≡ act op (view t))
+  by_refusal : (r : Option Refusal) → refusal op (view t) ≡ r → (r ≡ none → says served ≡ act op (view t))
       → says (settled_by r refuse served) ≡ step op (view t)
-  by-refusal none e g = g refl ∙ sym (unrefused-acts op (view t) e)
-  by-refusal (just why) e g = refused why ∙ sym (refused-alters-nothing op (view t) why e)
+  by_refusal none e g = g refl ∙ sym (unrefused_acts op (view t) e)
+  by_refusal (just why) e g = refused why ∙ sym (refused_alters_nothing op (view t) why e)
 
   -- a call that is refused as the machine refuses it, and else does what the machine does, agrees with it
   pub agreeing : kept t ≡ true → (refusal_at op t ≡ none → says served ≡ act op (view t))
       → says (settled_by (refusal_at op t) refuse served) ≡ step op (view t)
-  agreeing h g = by-refusal (refusal_at op t) (refusal-kept op (view t) (state-kept t h) ∙ sym (past-kept t h op)) g
+  agreeing h g = by_refusal (refusal_at op t) (refusal_kept op (view t) (state_kept t h) ∙ sym (past_kept t h op)) g

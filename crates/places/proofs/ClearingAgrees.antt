@@ -17,14 +17,14 @@ use Rattle.places.specs.Moves.{emptied}
 use Rattle.places.specs.Calls.{not_woken, clear_in}
 use Rattle.places.specs.Agreement.{woken_says}
 use Rattle.rules.specs.Calls as call
-use Rattle.rules.proofs.Acts.{act-clear}
-use Rattle.places.proofs.Refusing.{kept-counts}
+use Rattle.rules.proofs.Acts.{act_clear}
+use Rattle.places.proofs.Refusing.{kept_counts}
 use Rattle.places.proofs.Agreeing.{agreeing}
 
 -- the open ones stay where the stored ones are emptied
-emptied-opens : (t : Table) → t.stored + t.opens ≤ 80 → opens_of (emptied t) ≡ opens_of t
+emptied_opens : (t : Table) → t.stored + t.opens ≤ 80 → opens_of (emptied t) ≡ opens_of t
 unfolding emptied
-emptied-opens t fits =
+emptied_opens t fits =
     let n = 80 - t.opens in
     let blanks = replicate t.stored blank in
     let rest = drop t.stored t.places in
@@ -35,11 +35,11 @@ emptied-opens t fits =
     ∙ drop-drop (n - t.stored) t.stored t.places
     ∙ ap (λ k. drop k t.places) whole
 
-pub clear-agrees : (t : Table) → kept t ≡ true → woken_says (clear_in t) ≡ step call.clear (view t)
+pub clear_agrees : (t : Table) → kept t ≡ true → woken_says (clear_in t) ≡ step call.clear (view t)
 unfolding clear_in emptied
-clear-agrees t h =
+clear_agrees t h =
     agreeing woken_says t call.clear (not_woken t) _ (λ why. refl) h
     (λ _. ap
     (λ l. outcome (call.yes_no false) (with_cancel (with_ones (view t) [] l) (cond (some is_report (opens_of t)) 255 t.cancel)))
-    (emptied-opens t (kept-counts t h))
-    ∙ sym (act-clear (view t)))
+    (emptied_opens t (kept_counts t h))
+    ∙ sym (act_clear (view t)))

@@ -31,43 +31,43 @@ use Rattle.places.specs.Agreement.{completed_says, told_says}
 use Rattle.rules.specs.Calls as call
 use Rattle.lists.proofs.Bools.{split}
 use Rattle.lists.proofs.Searches.{first_some}
-use Rattle.lists.proofs.Places.{first-at}
-use Rattle.rules.proofs.Clauses.{complete-objects, first_holds, first-passed}
-use Rattle.rules.proofs.Acts.{act-complete, act-attribute, act-send}
-use Rattle.places.proofs.Refusing.{kept-counts, past-kept}
+use Rattle.lists.proofs.Places.{first_at}
+use Rattle.rules.proofs.Clauses.{complete_objects, first_holds, first_passed}
+use Rattle.rules.proofs.Acts.{act_complete, act_attribute, act_send}
+use Rattle.places.proofs.Refusing.{kept_counts, past_kept}
 use Rattle.places.proofs.Agreeing.{agreeing}
-use Rattle.places.proofs.Viewing.{stored-stored, stored-opens, closed-opens, closed-stored}
+use Rattle.places.proofs.Viewing.{stored_stored, stored_opens, closed_opens, closed_stored}
 
 module _ (t : Table) (long : length t.places ≡ 80) (h : kept t ≡ true) where
   -- the open one that the scan finds
-  same-open : (id : ℕ) → get_or t.places (open_at t id) blank ≡ open_with id (view t)
+  same_open : (id : ℕ) → get_or t.places (open_at t id) blank ≡ open_with id (view t)
   unfolding open_at
-  same-open id =
-      sym (get_or-drop (80 - t.opens) t.places (first (has_id id) (opens_of t)) blank) ∙ sym (first-at (has_id id) blank (opens_of t))
+  same_open id =
+      sym (get_or-drop (80 - t.opens) t.places (first (has_id id) (opens_of t)) blank) ∙ sym (first_at (has_id id) blank (opens_of t))
 
-  pub attribute-agrees : (id e c a : ℕ) → told_says t (attribute_at t id e c a) ≡ step (call.attribute id e c a) (view t)
+  pub attribute_agrees : (id e c a : ℕ) → told_says t (attribute_at t id e c a) ≡ step (call.attribute id e c a) (view t)
   unfolding attribute_at
-  attribute-agrees id e c a =
+  attribute_agrees id e c a =
       agreeing (told_says t) t (call.attribute id e c a) told.Refused _ (λ why. refl) h
-      (λ _. ap (λ x. outcome (call.yes_no (never_reported x.reported || changed_since t.log e c a x.seen)) (view t)) (same-open id)
-      ∙ sym (act-attribute (view t) id e c a))
+      (λ _. ap (λ x. outcome (call.yes_no (never_reported x.reported || changed_since t.log e c a x.seen)) (view t)) (same_open id)
+      ∙ sym (act_attribute (view t) id e c a))
 
-  pub send-agrees : (id : ℕ) (kind : KeepAlive) → told_says t (send_at t id kind) ≡ step (call.send_if_empty id kind) (view t)
+  pub send_agrees : (id : ℕ) (kind : KeepAlive) → told_says t (send_at t id kind) ≡ step (call.send_if_empty id kind) (view t)
   unfolding send_at
-  send-agrees id kind =
+  send_agrees id kind =
       agreeing (told_says t) t (call.send_if_empty id kind) told.Refused _ (λ why. refl) h
-      (λ _. ap (λ x. outcome (call.yes_no (is_due x x.opened kind)) (view t)) (same-open id) ∙ sym (act-send (view t) id kind))
+      (λ _. ap (λ x. outcome (call.yes_no (is_due x x.opened kind)) (view t)) (same_open id) ∙ sym (act_send (view t) id kind))
 
   -- where a completion is not refused, some open one has the id
-  pub open-found : (id o : ℕ) → refusal_at (call.complete id o) t ≡ none → first (has_id id) (opens_of t) < t.opens
-  open-found id o e =
-      let b = kept-counts t h in
+  pub open_found : (id o : ℕ) → refusal_at (call.complete id o) t ≡ none → first (has_id id) (opens_of t) < t.opens
+  open_found id o e =
+      let b = kept_counts t h in
       let size : length (opens_of t) ≡ t.opens = length-drop (80 - t.opens) t.places ∙ (omega arith) in
-      let w = sym (past-kept t h (call.complete id o) ∙ ap first_of (complete-objects (view t) id o)) ∙ e in
+      let w = sym (past_kept t h (call.complete id o) ∙ ap first_of (complete_objects (view t) id o)) ∙ e in
       split (ltb 4 o)
       (λ u. absurd (let v = sym (first_holds BadArgument _ u) ∙ w in let z : ◌≡◌ {A = ℕ} 0 1 = cc in omega arith))
       (λ u. split (not_open id (view t))
-      (λ v. absurd (let x = sym (first-passed BadArgument _ u ∙ first_holds NotOpen _ v) ∙ w in let z : ◌≡◌ {A = ℕ} 0 1 = cc in omega arith))
+      (λ v. absurd (let x = sym (first_passed BadArgument _ u ∙ first_holds NotOpen _ v) ∙ w in let z : ◌≡◌ {A = ℕ} 0 1 = cc in omega arith))
       (λ v. let there = first_some (has_id id) (opens_of t) ∙ not-false _ v in
       let f = ltb-true (first (has_id id) (opens_of t)) (length (opens_of t)) there in
       omega arith))
@@ -75,54 +75,54 @@ module _ (t : Table) (long : length t.places ≡ 80) (h : kept t ≡ true) where
   module _ (id : ℕ) (found : first (has_id id) (opens_of t) < t.opens) where
     pub at_most : open_at t id < 80
     unfolding open_at
-    at_most = let b = kept-counts t h in omega arith
+    at_most = let b = kept_counts t h in omega arith
 
     pub at_least : 80 - t.opens ≤ open_at t id
     unfolding open_at
     at_least = omega arith
 
-    rest-opens : opens_of (closed_at t (open_at t id)) ≡ take_out_newest (has_id id) (opens_of t)
+    rest_opens : opens_of (closed_at t (open_at t id)) ≡ take_out_newest (has_id id) (opens_of t)
     unfolding open_at
-    rest-opens = let b = kept-counts t h in closed-opens t long (has_id id) (omega arith) found
+    rest_opens = let b = kept_counts t h in closed_opens t long (has_id id) (omega arith) found
 
-    rest-stored : stored_of (closed_at t (open_at t id)) ≡ stored_of t
-    rest-stored = closed-stored t long (open_at t id) (kept-counts t h) at_least
+    rest_stored : stored_of (closed_at t (open_at t id)) ≡ stored_of t
+    rest_stored = closed_stored t long (open_at t id) (kept_counts t h) at_least
 
-    rest-long : length (closed_at t (open_at t id)).places ≡ 80
+    rest_long : length (closed_at t (open_at t id)).places ≡ 80
     unfolding closed_at
-    rest-long =
+    rest_long =
         let n = 80 - t.opens in
         let m = set t.places (open_at t id) (get_or t.places n blank) in
         length-set m n blank ∙ length-set t.places (open_at t id) (get_or t.places n blank) ∙ long
 
-    pub closed-room : (closed_at t (open_at t id)).stored + (closed_at t (open_at t id)).opens < 80
+    pub closed_room : (closed_at t (open_at t id)).stored + (closed_at t (open_at t id)).opens < 80
     unfolding closed_at
-    closed-room = let b = kept-counts t h in omega arith
+    closed_room = let b = kept_counts t h in omega arith
 
     -- the state without the open one, and with it stored again
-    dropped-view : (r : ℕ) → view (with_reason (closed_at t (open_at t id)) r)
+    dropped_view : (r : ℕ) → view (with_reason (closed_at t (open_at t id)) r)
         ≡ with_cancel (with_ones (view t) (stored_of t) (take_out_newest (has_id id) (opens_of t))) r
     unfolding closed_at
-    dropped-view r =
-        ap (λ l. with_cancel (with_ones (view t) l (opens_of (closed_at t (open_at t id)))) r) rest-stored
-        ∙ ap (λ l. with_cancel (with_ones (view t) (stored_of t) l) r) rest-opens
+    dropped_view r =
+        ap (λ l. with_cancel (with_ones (view t) l (opens_of (closed_at t (open_at t id)))) r) rest_stored
+        ∙ ap (λ l. with_cancel (with_ones (view t) (stored_of t) l) r) rest_opens
 
-    kept-view : (y : Subscription) (r : ℕ) → view (with_reason (stored_last (closed_at t (open_at t id)) y) r)
+    kept_view : (y : Subscription) (r : ℕ) → view (with_reason (stored_last (closed_at t (open_at t id)) y) r)
         ≡ with_cancel (with_ones (view t) (stored_of t ++ (y ∷ [])) (take_out_newest (has_id id) (opens_of t))) r
     unfolding closed_at stored_last
-    kept-view y r =
+    kept_view y r =
         let u = closed_at t (open_at t id) in
-        let room = closed-room in
+        let room = closed_room in
         ap (λ l. with_cancel (with_ones (view t) l (opens_of (stored_last u y))) r)
-        (stored-stored u rest-long y (omega arith) ∙ ap (λ l. l ++ (y ∷ [])) rest-stored)
-        ∙ ap (λ l. with_cancel (with_ones (view t) (stored_of t ++ (y ∷ [])) l) r) (stored-opens u rest-long y room ∙ rest-opens)
+        (stored_stored u rest_long y (omega arith) ∙ ap (λ l. l ++ (y ∷ [])) rest_stored)
+        ∙ ap (λ l. with_cancel (with_ones (view t) (stored_of t ++ (y ∷ [])) l) r) (stored_opens u rest_long y room ∙ rest_opens)
 
-    ended-view : (x : Subscription) (o r : ℕ) → view (with_reason (table_after t (open_at t id) x o) r)
+    ended_view : (x : Subscription) (o r : ℕ) → view (with_reason (table_after t (open_at t id) x o) r)
         ≡ with_cancel (with_ones (view t) (stored_after x o (view t)) (take_out_newest (has_id id) (opens_of t))) r
-    ended-view x o r =
+    ended_view x o r =
         split (stays_after t.cancel x o)
-        (λ u. rw u (kept-view (closed x o) r))
-        (λ u. rw u (dropped-view r))
+        (λ u. rw u (kept_view (closed x o) r))
+        (λ u. rw u (dropped_view r))
 
     ended_same : (o : ℕ) → completed_says (ended_at t (open_at t id) o)
         ≡ outcome (call.completed (stays (open_with id (view t)) o (view t)) (failed (open_with id (view t)) o))
@@ -131,13 +131,13 @@ module _ (t : Table) (long : length t.places ≡ 80) (h : kept t ≡ true) where
     unfolding ended_at
     ended_same o =
         let x = get_or t.places (open_at t id) blank in
-        ap (λ s. outcome (call.completed (stays_after t.cancel x o) (failed x o)) s) (ended-view x o (cond x.reporting 0 t.cancel))
+        ap (λ s. outcome (call.completed (stays_after t.cancel x o) (failed x o)) s) (ended_view x o (cond x.reporting 0 t.cancel))
         ∙ ap (λ z. outcome (call.completed (stays z o (view t)) (failed z o))
         (with_cancel (with_ones (view t) (stored_after z o (view t)) (take_out_newest (has_id id) (opens_of t))) (cond z.reporting 0 t.cancel)))
-        (same-open id)
+        (same_open id)
 
-  pub complete-agrees : (id o : ℕ) → completed_says (complete_in t id o) ≡ step (call.complete id o) (view t)
+  pub complete_agrees : (id o : ℕ) → completed_says (complete_in t id o) ≡ step (call.complete id o) (view t)
   unfolding complete_in
-  complete-agrees id o =
+  complete_agrees id o =
       agreeing completed_says t (call.complete id o) (not_completed t) (ended_at t (open_at t id) o) (λ why. refl) h
-      (λ e. ended_same id (open-found id o e) o ∙ sym (act-complete (view t) id o))
+      (λ e. ended_same id (open_found id o e) o ∙ sym (act_complete (view t) id o))

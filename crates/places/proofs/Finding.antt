@@ -16,9 +16,9 @@ use Rattle.lists.proofs.Bools.{split}
 use Rattle.lists.proofs.Searches.{first_some}
 
 -- the place that a scan of the open ones finds is one of the eighty exactly where there is one
-pub open-there : (t : Table) → length t.places ≡ 80 → t.opens ≤ 80 → (p : Subscription → Bool) {i : ℕ}
+pub open_there : (t : Table) → length t.places ≡ 80 → t.opens ≤ 80 → (p : Subscription → Bool) {i : ℕ}
     → i ≡ first_open t p → ltb i 80 ≡ some p (opens_of t)
-open-there t long fits p {i} e =
+open_there t long fits p {i} e =
     let size : length (opens_of t) ≡ t.opens = length-drop (80 - t.opens) t.places ∙ (omega arith) in
     split (ltb (first p (opens_of t)) (length (opens_of t)))
     (λ u. lt-ltb i 80 (let w = ltb-true (first p (opens_of t)) (length (opens_of t)) u in omega arith) ∙ sym u ∙ first_some p (opens_of t))
@@ -27,10 +27,10 @@ open-there t long fits p {i} e =
 -- so where it finds none, that no open one is such holds, and where it finds one it does not
 module _ (t : Table) (long : length t.places ≡ 80) (fits : t.opens ≤ 80) (p : Subscription → Bool) {i : ℕ} (e : i ≡ first_open t p) where
   pub none_open : 80 ≤ i → not (some p (opens_of t)) ≡ true
-  none_open h = ap not (sym (open-there t long fits p e) ∙ le-ltb i 80 h)
+  none_open h = ap not (sym (open_there t long fits p e) ∙ le-ltb i 80 h)
 
-  pub one-open : i < 80 → not (some p (opens_of t)) ≡ false
-  one-open h = ap not (sym (open-there t long fits p e) ∙ lt-ltb i 80 h)
+  pub one_open : i < 80 → not (some p (opens_of t)) ≡ false
+  one_open h = ap not (sym (open_there t long fits p e) ∙ lt-ltb i 80 h)
 
 -- and the place that a scan of the stored ones finds is one of theirs exactly where there is one
 pub stored_there : (t : Table) → length t.places ≡ 80 → t.stored ≤ 80 → (p : Subscription → Bool) {i : ℕ}

@@ -31,85 +31,85 @@ use Rattle.places.specs.Moves.{taken_out, closed_at, swept_out, emptied}
 use Rattle.places.specs.Calls.{settled_by, note_in, first_ready, handed_out, hand_out_in, report_in, add_to, resume_in, stays_after, table_after, open_at, ended_at, complete_in, remove_in, clear_in, purged_table, purge_in}
 use Rattle.rules.specs.Calls as call
 use Rattle.lists.proofs.Bools.{split}
-use Rattle.places.proofs.Refusing.{past-kept, unkept, add_same, resume-same, room-left}
-use Rattle.places.proofs.CompletionAgrees.{open-found, at_most, at_least, closed-room}
+use Rattle.places.proofs.Refusing.{past_kept, unkept, add_same, resume_same, room_left}
+use Rattle.places.proofs.CompletionAgrees.{open_found, at_most, at_least, closed_room}
 
 -- a call that is not refused is one of a well-kept table
-pub unrefused-kept : (t : Table) (op : Op) → refusal_at op t ≡ none → kept t ≡ true
-unrefused-kept t op e =
+pub unrefused_kept : (t : Table) (op : Op) → refusal_at op t ≡ none → kept t ≡ true
+unrefused_kept t op e =
     split (kept t) (λ k. k) (λ k. absurd (let w = sym (unkept t k op) ∙ e in let z : ◌≡◌ {A = ℕ} 0 1 = cc in omega arith))
 
 module _ (P : Table → Type 0) {A : Type 0} (after : A → Table) (t : Table) (h : P t) (refuse : Refusal → A) (served : A) (back : (why : Refusal) → after (refuse why) ≡ t) where
-  by-refusal : (r : Option Refusal) → (r ≡ none → P (after served)) → P (after (settled_by r refuse served))
-  by-refusal none g = g refl
-  by-refusal (just why) g = rw (back why) h
+  by_refusal : (r : Option Refusal) → (r ≡ none → P (after served)) → P (after (settled_by r refuse served))
+  by_refusal none g = g refl
+  by_refusal (just why) g = rw (back why) h
 
 module _ {P : Table → Type 0} (lasting : Lasting P) (t : Table) (h : P t) where
-  pub note-lasts : (e c a : ℕ) → P (note_in t e c a).table
+  pub note_lasts : (e c a : ℕ) → P (note_in t e c a).table
   unfolding note_in
-  note-lasts e c a = by-refusal P (λ (r : TableNoted). r.table) t h _ _ (λ why. refl) (refusal_at (call.note e c a) t) (λ _. lasting.again t _ refl refl refl h)
+  note_lasts e c a = by_refusal P (λ (r : TableNoted). r.table) t h _ _ (λ why. refl) (refusal_at (call.note e c a) t) (λ _. lasting.again t _ refl refl refl h)
 
-  handed-lasts : (at : Settings) (i : ℕ) → i < t.stored → P (handed_out t at i).table
+  handed_lasts : (at : Settings) (i : ℕ) → i < t.stored → P (handed_out t at i).table
   unfolding handed_out taken_out
-  handed-lasts at i w = lasting.opened (taken_out t i) (lasting.taken t h i w) _ (omega (arith, (lasting.wholly t h).fits))
+  handed_lasts at i w = lasting.opened (taken_out t i) (lasting.taken t h i w) _ (omega (arith, (lasting.wholly t h).fits))
 
-  pub report-lasts : (at : Settings) → P (report_in t at).table
+  pub report_lasts : (at : Settings) → P (report_in t at).table
   unfolding report_in hand_out_in
-  report-lasts at =
-      by-refusal P (λ (r : Reported). r.table) t h _ _ (λ why. refl) (refusal_at (call.report at) t)
+  report_lasts at =
+      by_refusal P (λ (r : Reported). r.table) t h _ _ (λ why. refl) (refusal_at (call.report at) t)
       (λ _. split (ltb (first_ready t at) t.stored)
-      (λ u. rw (u, hand_out_in) (handed-lasts at (first_ready t at) (ltb-true (first_ready t at) t.stored u)))
+      (λ u. rw (u, hand_out_in) (handed_lasts at (first_ready t at) (ltb-true (first_ready t at) t.stored u)))
       (λ u. rw (u, hand_out_in) h))
 
-  pub add-lasts : (request : Request) (events : ℕ) (now : Instant) → P (add_to t request events now).table
+  pub add_lasts : (request : Request) (events : ℕ) (now : Instant) → P (add_to t request events now).table
   unfolding add_to
-  add-lasts request events now =
+  add_lasts request events now =
       let op = call.add request events now in
-      by-refusal P (λ (r : Admitted). r.table) t h _ _ (λ why. refl) (refusal_at op t)
-      (λ e. let k = unrefused-kept t op e in
-      let clear = sym (past-kept t k op ∙ ap first_of (add_same t (lasting.wholly t h).long k request events now)) ∙ e in
-      lasting.again _ _ refl refl refl (lasting.opened t h _ (room-left t request t.next k clear)))
+      by_refusal P (λ (r : Admitted). r.table) t h _ _ (λ why. refl) (refusal_at op t)
+      (λ e. let k = unrefused_kept t op e in
+      let clear = sym (past_kept t k op ∙ ap first_of (add_same t (lasting.wholly t h).long k request events now)) ∙ e in
+      lasting.again _ _ refl refl refl (lasting.opened t h _ (room_left t request t.next k clear)))
 
-  pub resume-lasts : (id : ℕ) (request : Request) (events : ℕ) → P (resume_in t id request events).table
+  pub resume_lasts : (id : ℕ) (request : Request) (events : ℕ) → P (resume_in t id request events).table
   unfolding resume_in
-  resume-lasts id request events =
+  resume_lasts id request events =
       let op = call.resume id request events in
-      by-refusal P (λ (r : Admitted). r.table) t h _ _ (λ why. refl) (refusal_at op t)
-      (λ e. let k = unrefused-kept t op e in
-      let clear = sym (past-kept t k op ∙ ap first_of (resume-same t (lasting.wholly t h).long k id request events)) ∙ e in
-      lasting.again _ _ refl refl refl (lasting.stored t h _ (room-left t request id k clear)))
+      by_refusal P (λ (r : Admitted). r.table) t h _ _ (λ why. refl) (refusal_at op t)
+      (λ e. let k = unrefused_kept t op e in
+      let clear = sym (past_kept t k op ∙ ap first_of (resume_same t (lasting.wholly t h).long k id request events)) ∙ e in
+      lasting.again _ _ refl refl refl (lasting.stored t h _ (room_left t request id k clear)))
 
-  pub complete-lasts : (id o : ℕ) → P (complete_in t id o).table
+  pub complete_lasts : (id o : ℕ) → P (complete_in t id o).table
   unfolding complete_in ended_at
-  complete-lasts id o =
+  complete_lasts id o =
       let op = call.complete id o in
       let j = open_at t id in
       let x = get_or t.places j blank in
-      by-refusal P (λ (r : Completed). r.table) t h _ _ (λ why. refl) (refusal_at op t)
-      (λ e. let k = unrefused-kept t op e in
-      let found = open-found t (lasting.wholly t h).long k id o e in
+      by_refusal P (λ (r : Completed). r.table) t h _ _ (λ why. refl) (refusal_at op t)
+      (λ e. let k = unrefused_kept t op e in
+      let found = open_found t (lasting.wholly t h).long k id o e in
       let rest = lasting.closed t h j (at_least t (lasting.wholly t h).long k id found) (at_most t (lasting.wholly t h).long k id found) in
-      let room = closed-room t (lasting.wholly t h).long k id found in
+      let room = closed_room t (lasting.wholly t h).long k id found in
       split (stays_after t.cancel x o)
       (λ u. lasting.again (table_after t j x o) _ refl refl refl (rw u (lasting.stored (closed_at t j) rest (closed x o) room)))
       (λ u. lasting.again (table_after t j x o) _ refl refl refl (rw u rest)))
 
-  pub remove-lasts : (choice : Choice) (reason : ℕ) → P (remove_in t choice reason).table
+  pub remove_lasts : (choice : Choice) (reason : ℕ) → P (remove_in t choice reason).table
   unfolding remove_in
-  remove-lasts choice reason =
-      by-refusal P (λ (r : Woken). r.table) t h _ _ (λ why. refl) (refusal_at (call.remove choice reason) t)
+  remove_lasts choice reason =
+      by_refusal P (λ (r : Woken). r.table) t h _ _ (λ why. refl) (refusal_at (call.remove choice reason) t)
       (λ _. lasting.again (swept_out (chosen choice) t) _ refl refl refl (lasting.swept t h (chosen choice)))
 
-  pub clear-lasts : P (clear_in t).table
+  pub clear_lasts : P (clear_in t).table
   unfolding clear_in
-  clear-lasts =
-      by-refusal P (λ (r : Woken). r.table) t h _ _ (λ why. refl) (refusal_at call.clear t)
+  clear_lasts =
+      by_refusal P (λ (r : Woken). r.table) t h _ _ (λ why. refl) (refusal_at call.clear t)
       (λ _. lasting.again (emptied t) _ refl refl refl (lasting.emptied t h))
 
-  pub purge-lasts : P (purge_in t).table
+  pub purge_lasts : P (purge_in t).table
   unfolding purge_in purged_table
-  purge-lasts =
-      by-refusal P (λ (r : Settled). r.table) t h _ _ (λ why. refl) (refusal_at call.purge t)
+  purge_lasts =
+      by_refusal P (λ (r : Settled). r.table) t h _ _ (λ why. refl) (refusal_at call.purge t)
       (λ _. split (ltb 0 t.opens)
       (λ u. rw (u, purged_table) h)
       (λ u. split (ltb 0 t.stored)

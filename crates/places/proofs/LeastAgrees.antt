@@ -29,58 +29,58 @@ use Rattle.places.specs.Calls.{alive_at, purged_table, purge_in}
 use Rattle.places.specs.Agreement.{settled_says, alive_says}
 use Rattle.rules.specs.Calls as call
 use Rattle.lists.proofs.Bools.{split}
-use Rattle.lists.proofs.Numbers.{least-lower}
-use Rattle.subscription.proofs.Laws.{due-most}
-use Rattle.rules.proofs.Acts.{act-purge, act-alive, alive-none, alive-some}
-use Rattle.places.proofs.Refusing.{kept-counts}
+use Rattle.lists.proofs.Numbers.{least_lower}
+use Rattle.subscription.proofs.Laws.{due_most}
+use Rattle.rules.proofs.Acts.{act_purge, act_alive, alive_none, alive_some}
+use Rattle.places.proofs.Refusing.{kept_counts}
 use Rattle.places.proofs.Agreeing.{agreeing}
 
 -- the least seen watermark, from the first one's or over all
 seen_same : (l : List Subscription) → 0 < length l → least_by seen_of (get_or l 0 blank).seen l ≡ least_seen l
 unfolding seen_of
 seen_same [] h = absurd (not-suc-le-zero h)
-seen_same (x ∷ xs) h = least-lower (λ y. y.seen) x.seen x xs (le_refl x.seen)
+seen_same (x ∷ xs) h = least_lower (λ y. y.seen) x.seen x xs (le_refl x.seen)
 
-alive-same : (t : Table) (l : List Subscription)
+alive_same : (t : Table) (l : List Subscription)
     → alive_says t (cond (eqb (length l) 0) alive.Never (alive.At (record { ms = least_by icd_due last_instant.ms l })))
     ≡ outcome (call.keep_alive (keep_alive_in l)) (view t)
 unfolding icd_due
-alive-same t [] = rw alive-none
-alive-same t (x ∷ xs) =
+alive_same t [] = rw alive_none
+alive_same t (x ∷ xs) =
     let many : eqb (length (x ∷ xs)) 0 ≡ false = eqb-suc-zero (length xs) in
-    rw (alive-some x xs, least-lower (λ y. (due_of y Icd).ms) last_instant.ms x xs (due-most x Icd), many)
+    rw (alive_some x xs, least_lower (λ y. (due_of y Icd).ms) last_instant.ms x xs (due_most x Icd), many)
 
 module _ (t : Table) (long : length t.places ≡ 80) (h : kept t ≡ true) where
-  stored-many : length (stored_of t) ≡ t.stored
-  stored-many = let b = kept-counts t h in length-take-le t.stored t.places (omega arith)
+  stored_many : length (stored_of t) ≡ t.stored
+  stored_many = let b = kept_counts t h in length-take-le t.stored t.places (omega arith)
 
-  opens-many : length (opens_of t) ≡ t.opens
-  opens-many = let b = kept-counts t h in length-drop (80 - t.opens) t.places ∙ (omega arith)
+  opens_many : length (opens_of t) ≡ t.opens
+  opens_many = let b = kept_counts t h in length-drop (80 - t.opens) t.places ∙ (omega arith)
 
-  pub alive-agrees : alive_says t (alive_at t) ≡ step call.next_keep_alive (view t)
+  pub alive_agrees : alive_says t (alive_at t) ≡ step call.next_keep_alive (view t)
   unfolding alive_at
-  alive-agrees =
+  alive_agrees =
       agreeing (alive_says t) t call.next_keep_alive alive.Refused _ (λ why. refl) h
       (λ _. ap (λ n. alive_says t (cond (eqb n 0) alive.Never (alive.At (record { ms = least_by icd_due last_instant.ms (stored_of t) }))))
-      (sym stored-many)
-      ∙ alive-same t (stored_of t)
-      ∙ sym (act-alive (view t)))
+      (sym stored_many)
+      ∙ alive_same t (stored_of t)
+      ∙ sym (act_alive (view t)))
 
   -- the least seen watermark of some stored ones
-  least-same : 0 < t.stored → least_by seen_of (get_or t.places 0 blank).seen (stored_of t) ≡ least_seen (stored_of t)
-  least-same Some-Stored =
-      let m = stored-many in
+  least_same : 0 < t.stored → least_by seen_of (get_or t.places 0 blank).seen (stored_of t) ≡ least_seen (stored_of t)
+  least_same Some-Stored =
+      let m = stored_many in
       ap (λ x. least_by seen_of x.seen (stored_of t)) (sym (get_or-take t.stored t.places 0 blank Some-Stored))
       ∙ seen_same (stored_of t) (omega arith)
 
-  pub purge-agrees : settled_says (purge_in t) ≡ step call.purge (view t)
+  pub purge_agrees : settled_says (purge_in t) ≡ step call.purge (view t)
   unfolding purge_in purged_table
-  purge-agrees =
+  purge_agrees =
       agreeing settled_says t call.purge (λ why. record { answer = change.Refused why; table = t }) _ (λ why. refl) h
-      (λ _. sym (act-purge (view t) ∙ rw (opens-many, stored-many)
+      (λ _. sym (act_purge (view t) ∙ rw (opens_many, stored_many)
       (split (ltb 0 t.opens)
       (λ u. rw (u, purged_table))
       (λ u. split (ltb 0 t.stored)
       (λ v. rw (u, v, purged_table)
-      (ap (λ m. outcome call.done (view (with_log t (purged t.log m).log))) (sym (least-same (ltb-true 0 t.stored v)))))
+      (ap (λ m. outcome call.done (view (with_log t (purged t.log m).log))) (sym (least_same (ltb-true 0 t.stored v)))))
       (λ v. rw (u, v, purged_table))))))

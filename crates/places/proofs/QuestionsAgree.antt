@@ -23,45 +23,45 @@ use Rattle.places.specs.Tests.{of_fabric, served, next_by}
 use Rattle.places.specs.Calls.{asking, any_at, next_at, load_of, has_at}
 use Rattle.places.specs.Agreement.{told_says, moment_says, load_says}
 use Rattle.rules.specs.Calls as call
-use Rattle.changes.proofs.Promises.{newest-any}
-use Rattle.rules.proofs.Acts.{act-any, act-next, act-statistics, act-has}
+use Rattle.changes.proofs.Promises.{newest_any}
+use Rattle.rules.proofs.Acts.{act_any, act_next, act_statistics, act_has}
 use Rattle.places.proofs.Finding.{stored_there}
-use Rattle.places.proofs.Refusing.{kept-counts, counted-fields}
+use Rattle.places.proofs.Refusing.{kept_counts, counted_fields}
 use Rattle.places.proofs.Agreeing.{agreeing}
-use Rattle.places.proofs.ReportAgrees.{same-found}
+use Rattle.places.proofs.ReportAgrees.{same_found}
 
 module _ (t : Table) (long : length t.places ≡ 80) (h : kept t ≡ true) where
-  pub any-agrees : (now : Instant) (events : ℕ) (kind : KeepAlive)
+  pub any_agrees : (now : Instant) (events : ℕ) (kind : KeepAlive)
       → told_says t (any_at t now events kind) ≡ step (call.any_reportable now events kind) (view t)
   unfolding any_at
-  any-agrees now events kind =
+  any_agrees now events kind =
       agreeing (told_says t) t (call.any_reportable now events kind) told.Refused _ (λ why. refl) h
-      (λ _. ap (λ b. outcome (call.yes_no b) (view t)) (same-found t long h (asking now events kind)) ∙ sym (act-any (view t) now events kind))
+      (λ _. ap (λ b. outcome (call.yes_no b) (view t)) (same_found t long h (asking now events kind)) ∙ sym (act_any (view t) now events kind))
 
   same_next : (events : ℕ) (kind : KeepAlive)
       → next_by (asking last_instant events kind) (newest_of t.log) ≡ (λ x. (next_of x (any_since t.log x.seen) events kind).ms)
   unfolding next_by
-  same_next events kind = fun_ext (λ x. ap (λ b. (next_of x b events kind).ms) (sym (newest-any t.log x.seen)))
+  same_next events kind = fun_ext (λ x. ap (λ b. (next_of x b events kind).ms) (sym (newest_any t.log x.seen)))
 
-  pub next-agrees : (events : ℕ) (kind : KeepAlive) → moment_says t (next_at t events kind) ≡ step (call.next_instant events kind) (view t)
+  pub next_agrees : (events : ℕ) (kind : KeepAlive) → moment_says t (next_at t events kind) ≡ step (call.next_instant events kind) (view t)
   unfolding next_at
-  next-agrees events kind =
+  next_agrees events kind =
       agreeing (moment_says t) t (call.next_instant events kind) moment.Refused _ (λ why. refl) h
       (λ _. ap (λ f. outcome (call.instant (record { ms = least_by f last_instant.ms (stored_of t) })) (view t)) (same_next events kind)
-      ∙ sym (act-next (view t) events kind))
+      ∙ sym (act_next (view t) events kind))
 
-  pub has-agrees : (fabric peer : ℕ) → told_says t (has_at t fabric peer) ≡ step (call.has_subscription fabric peer) (view t)
+  pub has_agrees : (fabric peer : ℕ) → told_says t (has_at t fabric peer) ≡ step (call.has_subscription fabric peer) (view t)
   unfolding has_at served
-  has-agrees fabric peer =
-      let b = kept-counts t h in
+  has_agrees fabric peer =
+      let b = kept_counts t h in
       agreeing (told_says t) t (call.has_subscription fabric peer) told.Refused _ (λ why. refl) h
       (λ _. ap (λ b. outcome (call.yes_no b) (view t)) (stored_there t long (omega arith) (served fabric peer) refl)
-      ∙ sym (act-has (view t) fabric peer))
+      ∙ sym (act_has (view t) fabric peer))
 
-  pub load-agrees : (fabric : ℕ) → load_says t (load_of t fabric) ≡ step (call.statistics fabric) (view t)
+  pub load_agrees : (fabric : ℕ) → load_says t (load_of t fabric) ≡ step (call.statistics fabric) (view t)
   unfolding load_of of_fabric
-  load-agrees fabric =
+  load_agrees fabric =
       agreeing (load_says t) t (call.statistics fabric) loaded.Refused _ (λ why. refl) h
       (λ _. ap (λ n. outcome (call.stats n (cond (eqb fabric 0) 0 (count (of_fabric fabric) (stored_of t))) (t.next - 1)) (view t))
-      (sym (counted-fields t long h))
-      ∙ sym (act-statistics (view t) fabric))
+      (sym (counted_fields t long h))
+      ∙ sym (act_statistics (view t) fabric))

@@ -23,20 +23,20 @@ use Rattle.places.specs.Views.{stored_of, opens_of, view, kept, refusal_at}
 use Rattle.places.specs.Calls.{admit_objections}
 use Rattle.rules.specs.Calls as call
 use Rattle.lists.proofs.Bools.{split, and_both, and_left, and_right}
-use Rattle.lists.proofs.Searches.{some-append}
-use Rattle.rules.proofs.Clauses.{counted_is, add-objects, resume-objects, well-kept-is, first_holds, first-passed, first-none}
+use Rattle.lists.proofs.Searches.{some_append}
+use Rattle.rules.proofs.Clauses.{counted_is, add_objects, resume_objects, well_kept_is, first_holds, first_passed, first_none}
 
 module _ (t : Table) where
   module _ (h : kept t ≡ true) where
-    pub state-kept : well_kept (view t) ≡ true
+    pub state_kept : well_kept (view t) ≡ true
     unfolding kept
-    state-kept = (and_both (leb (t.stored + t.opens) t.capacity) (well_kept (view t)) h).1
+    state_kept = (and_both (leb (t.stored + t.opens) t.capacity) (well_kept (view t)) h).1
 
     -- the counts are at most eighty
-    pub kept-counts : t.stored + t.opens ≤ 80
+    pub kept_counts : t.stored + t.opens ≤ 80
     unfolding kept
-    kept-counts =
-        let w = sym (well-kept-is (view t)) ∙ state-kept in
+    kept_counts =
+        let w = sym (well_kept_is (view t)) ∙ state_kept in
         let able = (and_both _ _ w).0 in
         omega (
           arith,
@@ -45,26 +45,26 @@ module _ (t : Table) where
         )
 
     -- and the capacity is
-    pub kept-capacity : t.capacity ≤ 80
-    kept-capacity =
-        let w = sym (well-kept-is (view t)) ∙ state-kept in
+    pub kept_capacity : t.capacity ≤ 80
+    kept_capacity =
+        let w = sym (well_kept_is (view t)) ∙ state_kept in
         let able = (and_both _ _ w).0 in
         leb-true t.capacity 80 (and_both (leb 1 t.capacity) (leb t.capacity 80) able).1
 
     -- the log is well kept
-    pub kept-log : log_kept t.log ≡ true
-    kept-log =
-        let w = sym (well-kept-is (view t)) ∙ state-kept in
+    pub kept_log : log_kept t.log ≡ true
+    kept_log =
+        let w = sym (well_kept_is (view t)) ∙ state_kept in
         search (and_left, and_right) depth 9
 
     -- the refusal is the first of the machine's objections
-    pub past-kept : (op : Op) → refusal_at op t ≡ first_of (objections op (view t))
+    pub past_kept : (op : Op) → refusal_at op t ≡ first_of (objections op (view t))
     unfolding refusal_at
-    past-kept op = first-passed NotWellKept (objections op (view t)) (ap not h)
+    past_kept op = first_passed NotWellKept (objections op (view t)) (ap not h)
 
     -- and there is none where the machine has no objection
-    pub no-refusal : (op : Op) → objections op (view t) ≡ [] → refusal_at op t ≡ none
-    no-refusal op e = past-kept op ∙ ap first_of e ∙ first-none
+    pub no_refusal : (op : Op) → objections op (view t) ≡ [] → refusal_at op t ≡ none
+    no_refusal op e = past_kept op ∙ ap first_of e ∙ first_none
 
   -- a table that is not well kept is refused with 7
   pub unkept : kept t ≡ false → (op : Op) → refusal_at op t ≡ just NotWellKept
@@ -73,9 +73,9 @@ module _ (t : Table) where
 
 module _ (t : Table) (long : length t.places ≡ 80) (h : kept t ≡ true) where
   -- the machine counts what the table's counts say
-  pub counted-fields : counted (view t) ≡ t.stored + t.opens
-  counted-fields =
-      let b = kept-counts t h in
+  pub counted_fields : counted (view t) ≡ t.stored + t.opens
+  counted_fields =
+      let b = kept_counts t h in
       counted_is (view t)
       ∙ omega (arith, length-take-le t.stored t.places (omega arith), length-drop (80 - t.opens) t.places)
 
@@ -83,18 +83,18 @@ module _ (t : Table) (long : length t.places ≡ 80) (h : kept t ≡ true) where
   pub add_same : (request : Request) (events : ℕ) (now : Instant)
       → objections (call.add request events now) (view t) ≡ admit_objections t request t.next
   add_same request events now =
-      add-objects (view t) request events now
-      ∙ rw (counted-fields, some-append (has_id t.next) (stored_of t) (opens_of t))
+      add_objects (view t) request events now
+      ∙ rw (counted_fields, some_append (has_id t.next) (stored_of t) (opens_of t))
 
-  pub resume-same : (id : ℕ) (request : Request) (events : ℕ) → objections (call.resume id request events) (view t) ≡ admit_objections t request id
-  resume-same id request events =
-      resume-objects (view t) id request events ∙ rw (counted-fields, some-append (has_id id) (stored_of t) (opens_of t))
+  pub resume_same : (id : ℕ) (request : Request) (events : ℕ) → objections (call.resume id request events) (view t) ≡ admit_objections t request id
+  resume_same id request events =
+      resume_objects (view t) id request events ∙ rw (counted_fields, some_append (has_id id) (stored_of t) (opens_of t))
 
 -- where an admission is not refused, there is room
-pub room-left : (t : Table) (request : Request) (id : ℕ) → kept t ≡ true → first_of (admit_objections t request id) ≡ none → t.stored + t.opens < 80
-room-left t request id h e =
+pub room_left : (t : Table) (request : Request) (id : ℕ) → kept t ≡ true → first_of (admit_objections t request id) ≡ none → t.stored + t.opens < 80
+room_left t request id h e =
     split (eqb request.fabric 0)
     (λ u. absurd (let w = sym (first_holds BadArgument _ u) ∙ e in let z : ◌≡◌ {A = ℕ} 0 1 = cc in omega arith))
     (λ u. split (leb t.capacity (t.stored + t.opens))
-    (λ v. absurd (let w = sym (first-passed BadArgument _ u ∙ first_holds Full _ v) ∙ e in let z : ◌≡◌ {A = ℕ} 0 1 = cc in omega arith))
-    (λ v. omega (arith, leb-false t.capacity (t.stored + t.opens) v, kept-capacity t h)))
+    (λ v. absurd (let w = sym (first_passed BadArgument _ u ∙ first_holds Full _ v) ∙ e in let z : ◌≡◌ {A = ℕ} 0 1 = cc in omega arith))
+    (λ v. omega (arith, leb-false t.capacity (t.stored + t.opens) v, kept_capacity t h)))

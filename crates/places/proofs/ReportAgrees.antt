@@ -26,81 +26,81 @@ use Rattle.places.specs.Calls.{first_ready, handed_out, hand_out_in, not_reporte
 use Rattle.places.specs.Agreement.{report_says}
 use Rattle.rules.specs.Calls as call
 use Rattle.lists.proofs.Bools.{split}
-use Rattle.lists.proofs.Places.{first-at}
-use Rattle.changes.proofs.Promises.{newest-any}
-use Rattle.rules.proofs.Acts.{ready-is, act-report, reported-one, reported-none}
+use Rattle.lists.proofs.Places.{first_at}
+use Rattle.changes.proofs.Promises.{newest_any}
+use Rattle.rules.proofs.Acts.{ready_is, act_report, reported_one, reported_none}
 use Rattle.places.proofs.Finding.{stored_there}
 use Rattle.places.proofs.Agreeing.{agreeing}
-use Rattle.places.proofs.Refusing.{kept-counts}
-use Rattle.places.proofs.Viewing.{taken-stored, taken-opens, opened-opens, opened-stored}
+use Rattle.places.proofs.Refusing.{kept_counts}
+use Rattle.places.proofs.Viewing.{taken_stored, taken_opens, opened_opens, opened_stored}
 
 module _ (t : Table) (long : length t.places ≡ 80) (h : kept t ≡ true) (at : Settings) where
   -- what the scan looks for is what the machine does
-  pub same-ready : ready_by at (newest_of t.log) ≡ ready at (view t)
+  pub same_ready : ready_by at (newest_of t.log) ≡ ready at (view t)
   unfolding ready_by
-  same-ready =
+  same_ready =
       fun_ext
       (λ x. sym
-      (ready-is at (view t) x
-      ∙ ap (λ b. reportable x at.now b at.events at.kind at.all) (newest-any t.log x.seen)))
+      (ready_is at (view t) x
+      ∙ ap (λ b. reportable x at.now b at.events at.kind at.all) (newest_any t.log x.seen)))
 
   -- and it finds the same
-  pub same-found : ltb (first_ready t at) t.stored ≡ some (ready at (view t)) (stored_of t)
+  pub same_found : ltb (first_ready t at) t.stored ≡ some (ready at (view t)) (stored_of t)
   unfolding first_ready
-  same-found =
-      let b = kept-counts t h in
-      stored_there t long (omega arith) (ready_by at (newest_of t.log)) refl ∙ ap (λ p. some p (stored_of t)) same-ready
+  same_found =
+      let b = kept_counts t h in
+      stored_there t long (omega arith) (ready_by at (newest_of t.log)) refl ∙ ap (λ p. some p (stored_of t)) same_ready
 
   module _ (there : ltb (first_ready t at) t.stored ≡ true) where
     within : first_ready t at < t.stored
     within = ltb-true (first_ready t at) t.stored there
 
-    same-one : get_or t.places (first_ready t at) blank ≡ next_up at (view t)
+    same_one : get_or t.places (first_ready t at) blank ≡ next_up at (view t)
     unfolding first_ready
-    same-one =
+    same_one =
         sym (get_or-take t.stored t.places (first_ready t at) blank within)
-        ∙ sym (first-at (ready_by at (newest_of t.log)) blank (stored_of t))
-        ∙ ap (λ p. first_by p blank (stored_of t)) same-ready
+        ∙ sym (first_at (ready_by at (newest_of t.log)) blank (stored_of t))
+        ∙ ap (λ p. first_by p blank (stored_of t)) same_ready
 
-    same-stored : stored_of (taken_out t (first_ready t at)) ≡ take_out (ready at (view t)) (stored_of t)
+    same_stored : stored_of (taken_out t (first_ready t at)) ≡ take_out (ready at (view t)) (stored_of t)
     unfolding first_ready
-    same-stored =
-        let b = kept-counts t h in
-        taken-stored t long (ready_by at (newest_of t.log)) (omega arith) within ∙ ap (λ p. take_out p (stored_of t)) same-ready
+    same_stored =
+        let b = kept_counts t h in
+        taken_stored t long (ready_by at (newest_of t.log)) (omega arith) within ∙ ap (λ p. take_out p (stored_of t)) same_ready
 
     same_view : (y : Subscription)
         → view (opened_up (taken_out t (first_ready t at)) y) ≡ with_ones (view t) (take_out (ready at (view t)) (stored_of t)) (y ∷ opens_of t)
     unfolding taken_out opened_up
     same_view y =
         let i = first_ready t at in
-        let b = kept-counts t h in
+        let b = kept_counts t h in
         let w = within in
         let m = set t.places i (get_or t.places (t.stored - 1) blank) in
         let size : length (taken_out t i).places ≡ 80 =
         length-set m (t.stored - 1) blank ∙ length-set t.places i (get_or t.places (t.stored - 1) blank) ∙ long in
-        ap (λ l. with_ones (view t) l (opens_of (opened_up (taken_out t i) y))) (opened-stored (taken_out t i) size y (omega arith) ∙ same-stored)
+        ap (λ l. with_ones (view t) l (opens_of (opened_up (taken_out t i) y))) (opened_stored (taken_out t i) size y (omega arith) ∙ same_stored)
         ∙ ap (λ l. with_ones (view t) (take_out (ready at (view t)) (stored_of t)) l)
-        (opened-opens (taken_out t i) size y (omega arith) ∙ ap (λ l. y ∷ l) (taken-opens t long i b w))
+        (opened_opens (taken_out t i) size y (omega arith) ∙ ap (λ l. y ∷ l) (taken_opens t long i b w))
 
-    handed-same : report_says (handed_out t at (first_ready t at)) ≡ reported at (view t)
+    handed_same : report_says (handed_out t at (first_ready t at)) ≡ reported at (view t)
     unfolding handed_out
-    handed-same =
+    handed_same =
         let x = get_or t.places (first_ready t at) blank in
         let y = opened x (watermark_of t.log) at.events at.now in
         ap (λ s. outcome (call.handed x.id x.rx) s) (same_view y)
         ∙ ap (λ z. outcome (call.handed z.id z.rx)
-        (with_ones (view t) (take_out (ready at (view t)) (stored_of t)) (opened_in at (view t) z ∷ opens_of t))) same-one
-        ∙ sym (reported-one at (view t) (sym same-found ∙ there))
+        (with_ones (view t) (take_out (ready at (view t)) (stored_of t)) (opened_in at (view t) z ∷ opens_of t))) same_one
+        ∙ sym (reported_one at (view t) (sym same_found ∙ there))
 
-  acted-same : report_says (hand_out_in t at) ≡ reported at (view t)
+  acted_same : report_says (hand_out_in t at) ≡ reported at (view t)
   unfolding hand_out_in
-  acted-same =
+  acted_same =
       split (ltb (first_ready t at) t.stored)
-      (λ u. rw (u, hand_out_in) (handed-same u))
-      (λ u. rw (u, hand_out_in) (sym (reported-none at (view t) (sym same-found ∙ u))))
+      (λ u. rw (u, hand_out_in) (handed_same u))
+      (λ u. rw (u, hand_out_in) (sym (reported_none at (view t) (sym same_found ∙ u))))
 
   -- the same answer, and the same state after it
-  pub report-agrees : report_says (report_in t at) ≡ step (call.report at) (view t)
+  pub report_agrees : report_says (report_in t at) ≡ step (call.report at) (view t)
   unfolding report_in
-  report-agrees =
-      agreeing report_says t (call.report at) (not_reported t) (hand_out_in t at) (λ why. refl) h (λ _. acted-same ∙ sym (act-report at (view t)))
+  report_agrees =
+      agreeing report_says t (call.report at) (not_reported t) (hand_out_in t at) (λ why. refl) h (λ _. acted_same ∙ sym (act_report at (view t)))

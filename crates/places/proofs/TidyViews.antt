@@ -15,24 +15,24 @@ use Rattle.rules.specs.States.{State, capacity_fits, well_kept}
 use Rattle.places.specs.Views.{stored_of, opens_of, view, kept}
 use Rattle.places.specs.Tidiness.{Whole, Tidy}
 use Rattle.lists.proofs.Bools.{split}
-use Rattle.rules.proofs.Clauses.{well-kept-is}
+use Rattle.rules.proofs.Clauses.{well_kept_is}
 
 module _ (t : Table) (h : Whole t) where
   -- the machine's lists are as long as the counts say
-  stored-long : length (stored_of t) ≡ t.stored
-  stored-long = let f = h.fits in length-take-le t.stored t.places (omega (arith, h.long))
+  stored_long : length (stored_of t) ≡ t.stored
+  stored_long = let f = h.fits in length-take-le t.stored t.places (omega (arith, h.long))
 
-  opens-long : length (opens_of t) ≡ t.opens
-  opens-long = let f = h.fits in length-drop (80 - t.opens) t.places ∙ (omega (arith, h.long))
+  opens_long : length (opens_of t) ≡ t.opens
+  opens_long = let f = h.fits in length-drop (80 - t.opens) t.places ∙ (omega (arith, h.long))
 
-  pub whole-kept : kept t ≡ well_kept (view t)
+  pub whole_kept : kept t ≡ well_kept (view t)
   unfolding kept
-  whole-kept =
+  whole_kept =
       split (leb (t.stored + t.opens) t.capacity)
       (λ u. rw (u, kept))
       (λ u. split (capacity_fits t.capacity)
-      (λ v. rw (u, kept) (sym (well-kept-is (view t) ∙ rw (stored-long, opens-long, u, v))))
-      (λ v. rw (u, kept) (sym (well-kept-is (view t) ∙ rw v))))
+      (λ v. rw (u, kept) (sym (well_kept_is (view t) ∙ rw (stored_long, opens_long, u, v))))
+      (λ v. rw (u, kept) (sym (well_kept_is (view t) ∙ rw v))))
 
 module _ (t : Table) where
   -- what stands at a place, by the state
@@ -58,16 +58,16 @@ remade places stored opens s = record {
 }
 
 module _ (t u : Table) (h : Tidy t) (k : Tidy u) (e : view t ≡ view u) where
-  same-stored : t.stored ≡ u.stored
-  same-stored = sym (stored-long t h.whole) ∙ ap (λ s. length s.stored) e ∙ stored-long u k.whole
+  same_stored : t.stored ≡ u.stored
+  same_stored = sym (stored_long t h.whole) ∙ ap (λ s. length s.stored) e ∙ stored_long u k.whole
 
-  same-opens : t.opens ≡ u.opens
-  same-opens = sym (opens-long t h.whole) ∙ ap (λ s. length s.opens) e ∙ opens-long u k.whole
+  same_opens : t.opens ≡ u.opens
+  same_opens = sym (opens_long t h.whole) ∙ ap (λ s. length s.opens) e ∙ opens_long u k.whole
 
   same_place : (i : ℕ) → get_or t.places i blank ≡ get_or u.places i blank
   same_place i =
-      let s = same-stored in
-      let o = same-opens in
+      let s = same_stored in
+      let o = same_opens in
       split (ltb i t.stored)
       (λ a. let w = ltb-true i t.stored a in
       stored_at t i w ∙ ap (λ z. get_or z.stored i blank) e ∙ sym (stored_at u i (omega arith)))
@@ -82,9 +82,9 @@ module _ (t u : Table) (h : Tidy t) (k : Tidy u) (e : view t ≡ view u) where
       ∙ sym (open_at u i (omega arith))))
 
   -- "From a fresh table equal views are equal tables": every table that comes from a fresh one is tidy
-  pub equal-views : t ≡ u
-  equal-views =
+  pub equal_views : t ≡ u
+  equal_views =
       ap (λ l. remade l t.stored t.opens (view t)) (ext_get_or blank t.places u.places (h.whole.long ∙ sym k.whole.long) (λ i _. same_place i))
-      ∙ ap (λ n. remade u.places n t.opens (view t)) same-stored
-      ∙ ap (λ n. remade u.places u.stored n (view t)) same-opens
+      ∙ ap (λ n. remade u.places n t.opens (view t)) same_stored
+      ∙ ap (λ n. remade u.places u.stored n (view t)) same_opens
       ∙ ap (remade u.places u.stored u.opens) e

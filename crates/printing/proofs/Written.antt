@@ -11,9 +11,9 @@ use Rattle.printing.specs.Answers.{digits_of, answer_line, answer_of, put_of, an
 use Rattle.printing.proofs.Answers.{twenty, put_all}
 
 -- "line number (from 1), code, value", two commas and CRLF: no more than sixty-four bytes
-answer-length : (number code value : ℕ) → length (answer_of number code value) ≤ answer_room
+answer_length : (number code value : ℕ) → length (answer_of number code value) ≤ answer_room
 unfolding answer_of answer_line
-answer-length number code value =
+answer_length number code value =
     let behind = digits_of code ++ (comma ∷ digits_of value) in
     omega (
       arith,
@@ -31,11 +31,11 @@ pub record Written (out : List ℕ) (at : ℕ) (text : List ℕ) (p : ℕ × Lis
   pub long : length p.1 ≡ length out
   pub fits : p.0 ≤ length out
 
-pub answer-written : (out : List ℕ) (at number code value : ℕ) → at + answer_room ≤ length out
+pub answer_written : (out : List ℕ) (at number code value : ℕ) → at + answer_room ≤ length out
     → Written out at (answer_of number code value) (put_of answer_room out at (answer_of number code value))
-answer-written out at number code value room =
+answer_written out at number code value room =
     let text = answer_of number code value in
-    let n = answer-length number code value in
+    let n = answer_length number code value in
     let front : length (take at out ++ text) ≡ at + length text =
     length-append (take at out) text ∙ ap (λ (k : ℕ). k + length text) (length-take-le at out (omega arith)) in
     rw (put_all answer_room out at text room)

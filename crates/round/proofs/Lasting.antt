@@ -16,30 +16,30 @@ use Rattle.places.specs.Calls.{settled_by, report_in}
 use Rattle.round.specs.Rounds.{turn_after, turn_of, served, made, not_rounded, round_of}
 use Rattle.rules.specs.Calls as call
 use Rattle.lists.proofs.Bools.{split}
-use Rattle.places.proofs.Lasting.{report-lasts, complete-lasts}
+use Rattle.places.proofs.Lasting.{report_lasts, complete_lasts}
 
 module _ {P : Table → Type 0} (lasting : Lasting P) where
-  turned-lasts : (a : HandOut) (t : Table) (o : ℕ) → P t → P (turn_after a t o).table
-  turned-lasts (hand_out.To x) t o h = complete-lasts lasting t h x.id o
-  turned-lasts hand_out.Nothing t o h = h
-  turned-lasts (hand_out.Refused why) t o h = h
+  turned_lasts : (a : HandOut) (t : Table) (o : ℕ) → P t → P (turn_after a t o).table
+  turned_lasts (hand_out.To x) t o h = complete_lasts lasting t h x.id o
+  turned_lasts hand_out.Nothing t o h = h
+  turned_lasts (hand_out.Refused why) t o h = h
 
-  turn-lasts : (t : Table) (at : Settings) (o : ℕ) → P t → P (turn_of t at o).table
+  turn_lasts : (t : Table) (at : Settings) (o : ℕ) → P t → P (turn_of t at o).table
   unfolding turn_of
-  turn-lasts t at o h = turned-lasts (report_in t at).answer (report_in t at).table o (report-lasts lasting t h at)
+  turn_lasts t at o h = turned_lasts (report_in t at).answer (report_in t at).table o (report_lasts lasting t h at)
 
-  served-lasts : (at : Settings) (os : List ℕ) (n : ℕ) (ids : List ℕ) (t : Table) → P t → P (served at os n ids t).0.table
+  served_lasts : (at : Settings) (os : List ℕ) (n : ℕ) (ids : List ℕ) (t : Table) → P t → P (served at os n ids t).0.table
   unfolding served
-  served-lasts at [] n ids t h = h
-  served-lasts at (o ∷ os) n ids t h =
+  served_lasts at [] n ids t h = h
+  served_lasts at (o ∷ os) n ids t h =
       split (turn_of t at o).made
-      (λ e. rw (e, served) (served-lasts at os (n + 1) (set ids n (turn_of t at o).id) (turn_of t at o).table (turn-lasts t at o h)))
-      (λ e. rw (e, served) (turn-lasts t at o h))
+      (λ e. rw (e, served) (served_lasts at os (n + 1) (set ids n (turn_of t at o).id) (turn_of t at o).table (turn_lasts t at o h)))
+      (λ e. rw (e, served) (turn_lasts t at o h))
 
-  pub round-lasts : (t : Table) (at : Settings) (os ids : List ℕ) → P t → P (round_of t at os ids).0.table
+  pub round_lasts : (t : Table) (at : Settings) (os ids : List ℕ) → P t → P (round_of t at os ids).0.table
   unfolding round_of
-  round-lasts t at os ids h = go (refusal_at (call.round at os ids) t)
+  round_lasts t at os ids h = go (refusal_at (call.round at os ids) t)
     where
       go : (r : Option Refusal) → P (settled_by r (λ why. (not_rounded t why, ids)) (made at (served at os 0 ids t))).0.table
-      go none = served-lasts at os 0 ids t h
+      go none = served_lasts at os 0 ids t h
       go (just why) = h

@@ -13,36 +13,36 @@ use Rattle.places.specs.declared.Table.{Table}
 use Rattle.lists.specs.Search.{some}
 use Rattle.rules.specs.Machine.{bad_outcome}
 use Rattle.round.specs.Rounds.{turn_of, served}
-use Rattle.lists.proofs.Counts.{some-nil, some-cons}
+use Rattle.lists.proofs.Counts.{some_nil, some_cons}
 
 module _ (os : List ℕ) (i : ℕ) where
   -- an outcome that is none is found
-  pub bad-here : i < length os → 4 < get_or os i 0 → some bad_outcome (drop i os) ≡ true
-  bad-here h b = rw (drop-cons os i 0 h, some-cons, lt-ltb 4 (get_or os i 0) b)
+  pub bad_here : i < length os → 4 < get_or os i 0 → some bad_outcome (drop i os) ≡ true
+  bad_here h b = rw (drop-cons os i 0 h, some_cons, lt-ltb 4 (get_or os i 0) b)
 
   -- one that is good is passed
-  pub good-here : i < length os → get_or os i 0 ≤ 4 → some bad_outcome (drop i os) ≡ some bad_outcome (drop (i + 1) os)
-  good-here h b = rw (drop-cons os i 0 h, some-cons, le-ltb 4 (get_or os i 0) b, add-one)
+  pub good_here : i < length os → get_or os i 0 ≤ 4 → some bad_outcome (drop i os) ≡ some bad_outcome (drop (i + 1) os)
+  good_here h b = rw (drop-cons os i 0 h, some_cons, le-ltb 4 (get_or os i 0) b, add-one)
 
   -- with none left, there is none
-  pub good-end : length os ≤ i → some bad_outcome (drop i os) ≡ false
-  good-end h = rw (drop_of_length-le os h) (some-nil bad_outcome)
+  pub good_end : length os ≤ i → some bad_outcome (drop i os) ≡ false
+  good_end h = rw (drop_of_length-le os h) (some_nil bad_outcome)
 
 module _ (at : Settings) (os : List ℕ) (n : ℕ) (ids : List ℕ) (t : Table) where
   -- a turn that hands somebody out
-  pub turn-made : n < length os → (turn_of t at (get_or os n 0)).made ≡ true
+  pub turn_made : n < length os → (turn_of t at (get_or os n 0)).made ≡ true
       → served at (drop n os) n ids t
       ≡ served at (drop (n + 1) os) (n + 1) (set ids n (turn_of t at (get_or os n 0)).id) (turn_of t at (get_or os n 0)).table
   unfolding served
-  turn-made h e = rw (drop-cons os n 0 h, e, add-one, served)
+  turn_made h e = rw (drop-cons os n 0 h, e, add-one, served)
 
   -- and one that does not
-  pub turn-missed : n < length os → (turn_of t at (get_or os n 0)).made ≡ false
+  pub turn_missed : n < length os → (turn_of t at (get_or os n 0)).made ≡ false
       → served at (drop n os) n ids t ≡ (record { handouts = n; table = (turn_of t at (get_or os n 0)).table }, ids)
   unfolding served
-  turn-missed h e = rw (drop-cons os n 0 h, e, served)
+  turn_missed h e = rw (drop-cons os n 0 h, e, served)
 
   -- with no outcome left the round is over
-  pub turns-end : length os ≤ n → served at (drop n os) n ids t ≡ (record { handouts = n; table = t }, ids)
+  pub turns_end : length os ≤ n → served at (drop n os) n ids t ≡ (record { handouts = n; table = t }, ids)
   unfolding served
-  turns-end h = rw (drop_of_length-le os h)
+  turns_end h = rw (drop_of_length-le os h)

@@ -12,22 +12,22 @@ use Rattle.rules.specs.Calls.{Op}
 use Rattle.rules.specs.Histories.{is_new}
 use Rattle.rules.specs.Machine.{run}
 use Rattle.rules.specs.Counts.{admissions, resumptions, endings}
-use Rattle.rules.proofs.Lives.{lives-counted}
-use Rattle.rules.proofs.Counting.{run-counts}
+use Rattle.rules.proofs.Lives.{lives_counted}
+use Rattle.rules.proofs.Counting.{run_counts}
 
 -- Counted places and endings together are the counted places there were, the admissions and the resumptions.
-pub places-add-up : (ops : List Op) (s : State) → some is_new ops ≡ false
+pub places_add_up : (ops : List Op) (s : State) → some is_new ops ≡ false
     → counted (run ops s) + endings ops s ≡ counted s + (admissions ops s + resumptions ops s)
-places-add-up ops s h = omega (arith, run-counts ops s h, lives-counted s, lives-counted (run ops s))
+places_add_up ops s h = omega (arith, run_counts ops s h, lives_counted s, lives_counted (run ops s))
 
 -- From a fresh table counted places equal admissions and resumptions less endings.
-pub places-from-fresh : (c : ℕ) (ops : List Op) → some is_new ops ≡ false
+pub places_from_fresh : (c : ℕ) (ops : List Op) → some is_new ops ≡ false
     → counted (run ops (fresh c)) ≡ admissions ops (fresh c) + resumptions ops (fresh c) - endings ops (fresh c)
 unfolding counted
-places-from-fresh c ops h = omega (arith, places-add-up ops (fresh c) h)
+places_from_fresh c ops h = omega (arith, places_add_up ops (fresh c) h)
 
 -- There are never more endings than that.
-pub endings-most : (c : ℕ) (ops : List Op) → some is_new ops ≡ false
+pub endings_most : (c : ℕ) (ops : List Op) → some is_new ops ≡ false
     → endings ops (fresh c) ≤ admissions ops (fresh c) + resumptions ops (fresh c)
 unfolding counted
-endings-most c ops h = omega (arith, places-add-up ops (fresh c) h)
+endings_most c ops h = omega (arith, places_add_up ops (fresh c) h)

@@ -42,9 +42,9 @@ two = after (kept 2) one
 abbrev adding : Diary
 adding = (call.note 3 6 0, call.heard 1 true) ∷ (call.add request 9 (instant 1000), call.number 1) ∷ []
 
-pub added-so : GoesBy adding (fresh 80) × ((after adding (fresh 80)).opens ≡ (priming request 1 1 9 (instant 1000) ∷ []))
+pub added_so : GoesBy adding (fresh 80) × ((after adding (fresh 80)).opens ≡ (priming request 1 1 9 (instant 1000) ∷ []))
 unfolding all_rules
-added-so = (refl, refl)
+added_so = (refl, refl)
 
 -- "Resume .. stores at the end as never reported, with the given id and event number, the present watermark"; "Next id moves as at add."
 abbrev resuming : Diary
@@ -55,10 +55,10 @@ resuming =
     ∷ (call.add request 0 (instant 1000), call.number 9)
     ∷ []
 
-pub resumed-so : GoesBy resuming (fresh 80)
+pub resumed_so : GoesBy resuming (fresh 80)
     × ((after resuming (fresh 80)).stored ≡ (resumed request 8 1 9 ∷ resumed request 4 1 9 ∷ []))
 unfolding all_rules
-resumed-so = (refl, refl)
+resumed_so = (refl, refl)
 
 -- ---- report and completion
 
@@ -74,9 +74,9 @@ note_meanwhile =
     ∷ (call.attribute 1 3 6 0, call.yes_no false)
     ∷ []
 
-pub heard-next-time : GoesBy note_meanwhile one
+pub heard_next_time : GoesBy note_meanwhile one
 unfolding all_rules
-heard-next-time = refl
+heard_next_time = refl
 
 -- "due ≤ now", by the keep-alive kind; "seen events below the event number"; "the all flag with reported_at < now"
 abbrev with_settings : ℕ → ℕ → KeepAlive → Bool → Op
@@ -94,9 +94,9 @@ reporting =
     ∷ (with_settings 62000 4 Default false, call.handed 1 5)
     ∷ []
 
-pub reported-so : GoesBy reporting one
+pub reported_so : GoesBy reporting one
 unfolding all_rules
-reported-so = refl
+reported_so = refl
 
 -- "A cancelled report is dropped under each outcome."
 abbrev cancelled_report : Diary
@@ -108,9 +108,9 @@ cancelled_report =
     ∷ (call.statistics 1, call.stats 0 0 1)
     ∷ []
 
-pub dropped-when-cancelled : GoesBy cancelled_report one
+pub dropped_when_cancelled : GoesBy cancelled_report one
 unfolding all_rules
-dropped-when-cancelled = refl
+dropped_when_cancelled = refl
 
 -- "2 retry: ..; if never reported, it is dropped instead."; "The failed flag is yes for 3 and for a retry that isn't a giving up"
 abbrev giving_up : Diary
@@ -121,9 +121,9 @@ giving_up =
     ∷ (call.complete 2 3, call.completed false true)
     ∷ []
 
-pub given-up : GoesBy giving_up (fresh 80)
+pub given_up : GoesBy giving_up (fresh 80)
 unfolding all_rules
-given-up = refl
+given_up = refl
 
 -- ---- removal and clearing
 
@@ -138,9 +138,9 @@ removing =
     ∷ (call.complete 3 0, call.completed true false)
     ∷ []
 
-pub priming-stays : GoesBy removing two × (ids_of (after removing two).stored ≡ (3 ∷ []))
+pub priming_stays : GoesBy removing two × (ids_of (after removing two).stored ≡ (3 ∷ []))
 unfolding all_rules
-priming-stays = (refl, refl)
+priming_stays = (refl, refl)
 
 -- "Clear empties the stored ones and cancels the report with reason 255, over an earlier reason. It doesn't wake."
 abbrev clearing : Diary
@@ -150,9 +150,9 @@ clearing =
     ∷ (call.clear, call.yes_no false)
     ∷ []
 
-pub cleared-so : GoesBy clearing two × ((after clearing two).stored ≡ []) × ((after clearing two).cancel ≡ 255)
+pub cleared_so : GoesBy clearing two × ((after clearing two).stored ≡ []) × ((after clearing two).cancel ≡ 255)
 unfolding all_rules
-cleared-so = (refl, refl, refl)
+cleared_so = (refl, refl, refl)
 
 -- "Purge does nothing while anything is open. Else it purges up to the least seen watermark, or empties the log if none is stored."
 abbrev purge_open : Diary
@@ -168,12 +168,12 @@ purge_shut = (call.complete 1 0, call.completed true false) ∷ (call.note 3 6 1
 abbrev purge_empty : Diary
 purge_empty = (call.remove All 9, call.yes_no true) ∷ (call.purge, call.done) ∷ []
 
-pub purged-so : ((after purge_open one).log.held.len ≡ 1)
+pub purged_so : ((after purge_open one).log.held.len ≡ 1)
     × ((after purge_shut (after purge_open one)).log.held.len ≡ 1)
     × ((after purge_empty (after purge_shut (after purge_open one))).log.held.len ≡ 0)
     × GoesBy purge_empty (after purge_shut (after purge_open one))
 unfolding all_rules
-purged-so = (refl, refl, refl, refl)
+purged_so = (refl, refl, refl, refl)
 
 -- ---- questions
 
@@ -188,9 +188,9 @@ asking =
     ∷ (call.attribute 2 3 6 0, call.yes_no true)
     ∷ []
 
-pub asked-so : GoesBy asking one
+pub asked_so : GoesBy asking one
 unfolding all_rules
-asked-so = refl
+asked_so = refl
 
 -- "next instant", "any reportable (all flag off)", "next keep-alive (the least `Icd` due instant of the stored, or none)"
 abbrev waking : Diary
@@ -207,9 +207,9 @@ waking =
     ∷ (call.next_keep_alive, call.keep_alive (just (instant 58000)))
     ∷ []
 
-pub wakes-so : GoesBy waking (fresh 80)
+pub wakes_so : GoesBy waking (fresh 80)
 unfolding all_rules
-wakes-so = refl
+wakes_so = refl
 
 -- "statistics (counted places; stored of a fabric, 0 if no fabric is asked; next id − 1, at least 0)"
 abbrev counting : Diary
@@ -220,9 +220,9 @@ counting =
     ∷ (call.statistics 0, call.stats 3 0 3)
     ∷ []
 
-pub counted-so : GoesBy counting two
+pub counted_so : GoesBy counting two
 unfolding all_rules
-counted-so = refl
+counted_so = refl
 
 -- "has subscription (fabric and peer stored with zero fails)"
 abbrev having : Diary
@@ -235,9 +235,9 @@ having =
     ∷ (call.has_subscription 1 7, call.yes_no false)
     ∷ []
 
-pub has-so : GoesBy having one
+pub has_so : GoesBy having one
 unfolding all_rules
-has-so = refl
+has_so = refl
 
 -- ---- the round
 
@@ -254,6 +254,6 @@ rounds =
 abbrev short_round : Diary
 short_round = (call.round (at 31000) (0 ∷ []) (9 ∷ []), call.rounded 1 false (1 ∷ [])) ∷ []
 
-pub round-so : GoesBy rounds two × GoesBy short_round two
+pub round_so : GoesBy rounds two × GoesBy short_round two
 unfolding all_rules
-round-so = (refl, refl)
+round_so = (refl, refl)

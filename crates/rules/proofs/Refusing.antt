@@ -57,9 +57,9 @@ refusals =
     ∷ (call.statistics 1, call.stats 2 0 2)
     ∷ []
 
-pub refused-so : GoesBy refusals (fresh 80)
+pub refused_so : GoesBy refusals (fresh 80)
 unfolding all_rules
-refused-so = refl
+refused_so = refl
 
 -- ---- well kept
 
@@ -79,61 +79,61 @@ log_of len next = record { held = record { entries = fresh_log.held.entries; len
 
 -- "capacity 1..80; counted places at most capacity; at most 16 entries; next identity not 0; live ids distinct; live fabrics not 0; at most one
 -- open report; a cancel reason only with it": at its bounds each holds
-pub kept-so : well_kept (table 80 9 (stored 1 1 ∷ stored 2 1 ∷ []) (reporting 3 ∷ []) (log_of 16 1)) ≡ true
+pub kept_so : well_kept (table 80 9 (stored 1 1 ∷ stored 2 1 ∷ []) (reporting 3 ∷ []) (log_of 16 1)) ≡ true
 unfolding all_rules
-kept-so = refl
+kept_so = refl
 
-pub kept-when-full : well_kept (table 1 0 (stored 0 1 ∷ []) [] (log_of 0 1)) ≡ true
+pub kept_when_full : well_kept (table 1 0 (stored 0 1 ∷ []) [] (log_of 0 1)) ≡ true
 unfolding all_rules
-kept-when-full = refl
+kept_when_full = refl
 
 -- and one step further each is broken, alone
-pub no-capacity : well_kept (table 0 0 [] [] (log_of 0 1)) ≡ false
+pub no_capacity : well_kept (table 0 0 [] [] (log_of 0 1)) ≡ false
 unfolding all_rules
-no-capacity = refl
+no_capacity = refl
 
-pub capacity-past-the-places : well_kept (table 81 0 [] [] (log_of 0 1)) ≡ false
+pub capacity_past_the_places : well_kept (table 81 0 [] [] (log_of 0 1)) ≡ false
 unfolding all_rules
-capacity-past-the-places = refl
+capacity_past_the_places = refl
 
-pub more-than-capacity : well_kept (table 1 0 (stored 1 1 ∷ []) (reporting 2 ∷ []) (log_of 0 1)) ≡ false
+pub more_than_capacity : well_kept (table 1 0 (stored 1 1 ∷ []) (reporting 2 ∷ []) (log_of 0 1)) ≡ false
 unfolding all_rules
-more-than-capacity = refl
+more_than_capacity = refl
 
-pub seventeen-entries : well_kept (table 80 0 [] [] (log_of 17 1)) ≡ false
+pub seventeen_entries : well_kept (table 80 0 [] [] (log_of 17 1)) ≡ false
 unfolding all_rules
-seventeen-entries = refl
+seventeen_entries = refl
 
-pub identity-zero : well_kept (table 80 0 [] [] (log_of 0 0)) ≡ false
+pub identity_zero : well_kept (table 80 0 [] [] (log_of 0 0)) ≡ false
 unfolding all_rules
-identity-zero = refl
+identity_zero = refl
 
-pub stored-twice : well_kept (table 80 0 (stored 1 1 ∷ stored 1 1 ∷ []) [] (log_of 0 1)) ≡ false
+pub stored_twice : well_kept (table 80 0 (stored 1 1 ∷ stored 1 1 ∷ []) [] (log_of 0 1)) ≡ false
 unfolding all_rules
-stored-twice = refl
+stored_twice = refl
 
-pub stored-and-open : well_kept (table 80 0 (stored 1 1 ∷ []) (reporting 1 ∷ []) (log_of 0 1)) ≡ false
+pub stored_and_open : well_kept (table 80 0 (stored 1 1 ∷ []) (reporting 1 ∷ []) (log_of 0 1)) ≡ false
 unfolding all_rules
-stored-and-open = refl
+stored_and_open = refl
 
-pub stored-without-fabric : well_kept (table 80 0 (stored 1 0 ∷ []) [] (log_of 0 1)) ≡ false
+pub stored_without_fabric : well_kept (table 80 0 (stored 1 0 ∷ []) [] (log_of 0 1)) ≡ false
 unfolding all_rules
-stored-without-fabric = refl
+stored_without_fabric = refl
 
-pub open-without-fabric : well_kept (table 80 0 [] (stored 1 0 ∷ []) (log_of 0 1)) ≡ false
+pub open_without_fabric : well_kept (table 80 0 [] (stored 1 0 ∷ []) (log_of 0 1)) ≡ false
 unfolding all_rules
-open-without-fabric = refl
+open_without_fabric = refl
 
-pub two-reports : well_kept (table 80 0 [] (reporting 1 ∷ reporting 2 ∷ []) (log_of 0 1)) ≡ false
+pub two_reports : well_kept (table 80 0 [] (reporting 1 ∷ reporting 2 ∷ []) (log_of 0 1)) ≡ false
 unfolding all_rules
-two-reports = refl
+two_reports = refl
 
-pub reason-without-report : well_kept (table 80 9 [] (stored 1 1 ∷ []) (log_of 0 1)) ≡ false
+pub reason_without_report : well_kept (table 80 9 [] (stored 1 1 ∷ []) (log_of 0 1)) ≡ false
 unfolding all_rules
-reason-without-report = refl
+reason_without_report = refl
 
 -- what is not well kept is refused with 7 by a call that could be refused otherwise, and a new table is made of it all the same
-pub seven-first : GoesBy ((call.complete 3 5, call.refused NotWellKept) ∷ (call.new 0, call.refused BadArgument) ∷ (call.new 2, call.number 2) ∷ [])
+pub seven_first : GoesBy ((call.complete 3 5, call.refused NotWellKept) ∷ (call.new 0, call.refused BadArgument) ∷ (call.new 2, call.number 2) ∷ [])
     (table 0 0 [] [] (log_of 0 1))
 unfolding all_rules
-seven-first = refl
+seven_first = refl

@@ -3,5 +3,5 @@
 use mathlib.Core.Path.{◌≡◌, sym, ◌∙◌}
 
 -- two answers that both equal the definition are one
-pub no-second-answer : {A : Type 0} (definition answer other : A) → answer ≡ definition → other ≡ definition → answer ≡ other
-no-second-answer definition answer other e f = e ∙ sym f
+pub no_second_answer : {A : Type 0} (definition answer other : A) → answer ≡ definition → other ≡ definition → answer ≡ other
+no_second_answer definition answer other e f = e ∙ sym f

@@ -50,18 +50,18 @@ four_reports =
     ∷ (call.note 3 6 0, call.heard 5 true)
     ∷ []
 
-pub three-stored : GoesBy three (fresh 80)
+pub three_stored : GoesBy three (fresh 80)
 unfolding all_rules
-three-stored = refl
+three_stored = refl
 
 pub in_order : ids_of (after three (fresh 80)).stored ≡ (1 ∷ 2 ∷ 3 ∷ [])
 unfolding all_rules
 in_order = refl
 
 -- A, C, A, C.
-pub a-c-a-c : GoesBy four_reports (after three (fresh 80))
+pub a_c_a_c : GoesBy four_reports (after three (fresh 80))
 unfolding all_rules
-a-c-a-c = refl
+a_c_a_c = refl
 
 -- And they stand as they stood: it goes on so, and never B.
 pub as_before : ids_of (after four_reports (after three (fresh 80))).stored ≡ (1 ∷ 2 ∷ 3 ∷ [])

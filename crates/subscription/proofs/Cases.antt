@@ -17,45 +17,45 @@ use Rattle.subscription.specs.Life.{priming, resumed, opened, stored_with, close
 -- ---- when it may speak and when it must
 
 module _ (x : Subscription) where
-  pub allowed-is : (allowed_of x).ms ≡ max (since_report x.reported x.shortest).ms x.retry.ms
+  pub allowed_is : (allowed_of x).ms ≡ max (since_report x.reported x.shortest).ms x.retry.ms
   unfolding allowed_of gate_of
-  allowed-is = refl
+  allowed_is = refl
 
-  pub due-is : (kind : KeepAlive) → due_of x kind ≡ since_report x.reported (due_after_secs kind x.longest)
+  pub due_is : (kind : KeepAlive) → due_of x kind ≡ since_report x.reported (due_after_secs kind x.longest)
   unfolding due_of
-  due-is kind = refl
+  due_is kind = refl
 
-  pub is-due-is : (now : Instant) (kind : KeepAlive) → is_due x now kind ≡ leb (due_of x kind).ms now.ms
+  pub is_due_is : (now : Instant) (kind : KeepAlive) → is_due x now kind ≡ leb (due_of x kind).ms now.ms
   unfolding is_due
-  is-due-is now kind = refl
+  is_due_is now kind = refl
 
-  pub reportable-is : (now : Instant) (changed : Bool) (events : ℕ) (kind : KeepAlive) (all : Bool)
+  pub reportable_is : (now : Instant) (changed : Bool) (events : ℕ) (kind : KeepAlive) (all : Bool)
       → reportable x now changed events kind all
       ≡ (leb (allowed_of x).ms now.ms
       && ((all && ltb x.reported.ms now.ms) || (leb (due_of x kind).ms now.ms || (changed || ltb x.heard events))))
   unfolding reportable along is_due pending
-  reportable-is now changed events kind all = refl
+  reportable_is now changed events kind all = refl
 
-  pub next-is : (changed : Bool) (events : ℕ) (kind : KeepAlive)
+  pub next_is : (changed : Bool) (events : ℕ) (kind : KeepAlive)
       → next_of x changed events kind
       ≡ cond (changed || ltb x.heard events) (allowed_of x) (record { ms = max (allowed_of x).ms (due_of x kind).ms })
   unfolding next_of pending
-  next-is changed events kind = refl
+  next_is changed events kind = refl
 
-  pub over-is : (now : Instant) → is_over x now ≡ expired x.reported x.longest now
+  pub over_is : (now : Instant) → is_over x now ≡ expired x.reported x.longest now
   unfolding is_over
-  over-is now = refl
+  over_is now = refl
 
   -- ---- what becomes of it
 
-  pub keeps-is : (outcome : ℕ) → keeps x outcome ≡ (not (eqb outcome 2 && never_reported x.reported) && leb outcome 2)
+  pub keeps_is : (outcome : ℕ) → keeps x outcome ≡ (not (eqb outcome 2 && never_reported x.reported) && leb outcome 2)
   unfolding keeps gives_up
-  keeps-is outcome = refl
+  keeps_is outcome = refl
 
-  pub failed-is : (outcome : ℕ)
+  pub failed_is : (outcome : ℕ)
       → failed x outcome ≡ (eqb outcome 3 || (eqb outcome 2 && not (eqb outcome 2 && never_reported x.reported)))
   unfolding failed gives_up
-  failed-is outcome = refl
+  failed_is outcome = refl
 
   pub closed_is : (outcome : ℕ)
       → closed x outcome ≡ cond (eqb outcome 2) (closed_retry x) (cond (eqb outcome 1) (closed_unsent x) (closed_sent x))
@@ -64,7 +64,7 @@ module _ (x : Subscription) where
 
 -- ---- the records
 
-pub priming-is : (request : Request) (id mark events : ℕ) (now : Instant)
+pub priming_is : (request : Request) (id mark events : ℕ) (now : Instant)
     → priming request id mark events now
     ≡ record {
       peer = request.peer;
@@ -84,9 +84,9 @@ pub priming-is : (request : Request) (id mark events : ℕ) (now : Instant)
       reporting = false;
     }
 unfolding priming
-priming-is request id mark events now = refl
+priming_is request id mark events now = refl
 
-pub resumed-is : (request : Request) (id mark events : ℕ)
+pub resumed_is : (request : Request) (id mark events : ℕ)
     → resumed request id mark events
     ≡ record {
       peer = request.peer;
@@ -106,9 +106,9 @@ pub resumed-is : (request : Request) (id mark events : ℕ)
       reporting = false;
     }
 unfolding resumed
-resumed-is request id mark events = refl
+resumed_is request id mark events = refl
 
-pub opened-is : (x : Subscription) (mark events : ℕ) (now : Instant)
+pub opened_is : (x : Subscription) (mark events : ℕ) (now : Instant)
     → opened x mark events now
     ≡ record {
       peer = x.peer;
@@ -128,9 +128,9 @@ pub opened-is : (x : Subscription) (mark events : ℕ) (now : Instant)
       reporting = true;
     }
 unfolding opened
-opened-is x mark events now = refl
+opened_is x mark events now = refl
 
-pub stored-with-is : (x : Subscription) (reported retry : Instant) (fails seen heard : ℕ)
+pub stored_with_is : (x : Subscription) (reported retry : Instant) (fails seen heard : ℕ)
     → stored_with x reported retry fails seen heard
     ≡ record {
       peer = x.peer;
@@ -150,4 +150,4 @@ pub stored-with-is : (x : Subscription) (reported retry : Instant) (fails seen h
       reporting = false;
     }
 unfolding stored_with
-stored-with-is x reported retry fails seen heard = refl
+stored_with_is x reported retry fails seen heard = refl

@@ -8,8 +8,8 @@ use Rattle.changes.specs.Logs.{kept as log_kept}
 use Rattle.rules.specs.States.{is_report, capacity_fits, fabric_zero}
 use Rattle.places.specs.Views.{stored_of, opens_of, view, kept}
 use Rattle.lists.proofs.Bools.{split, clash, and_both}
-use Rattle.lists.proofs.Searches.{some-counted}
-use Rattle.rules.proofs.Clauses.{well-kept-is}
+use Rattle.lists.proofs.Searches.{some_counted}
+use Rattle.rules.proofs.Clauses.{well_kept_is}
 
 -- what is left to test of a table whose counts are within its capacity
 abbrev pub Inside : Table → Bool
@@ -27,7 +27,7 @@ module _ (t : Table) where
       split (leb (t.stored + t.opens) t.capacity)
       (λ u. split (capacity_fits t.capacity)
       (λ v. absurd (clash (rw (v, u)) h))
-      (λ v. rw (u, kept) (well-kept-is (view t) ∙ rw v)))
+      (λ v. rw (u, kept) (well_kept_is (view t) ∙ rw v)))
       (λ u. rw (u, kept))
 
   module _ (long : length t.places ≡ 80) (w : (capacity_fits t.capacity && leb (t.stored + t.opens) t.capacity) ≡ true) where
@@ -38,18 +38,18 @@ module _ (t : Table) where
     able = (and_both (capacity_fits t.capacity) (leb (t.stored + t.opens) t.capacity) w).0
 
     -- the counts are at most eighty
-    pub counts-fit : t.stored + t.opens ≤ 80
-    counts-fit =
+    pub counts_fit : t.stored + t.opens ≤ 80
+    counts_fit =
         omega (arith, leb-true (t.stored + t.opens) t.capacity fits, leb-true t.capacity 80 (and_both (leb 1 t.capacity) (leb t.capacity 80) able).1)
 
     lengths : length (stored_of t) + length (opens_of t) ≡ t.stored + t.opens
     lengths =
-        let c = counts-fit in
+        let c = counts_fit in
         omega (arith, length-take-le t.stored t.places (omega arith), length-drop (80 - t.opens) t.places)
 
-    pub within-kept : kept t ≡ Inside t
+    pub within_kept : kept t ≡ Inside t
     unfolding kept
-    within-kept =
+    within_kept =
         rw (fits, kept)
-        (well-kept-is (view t)
-        ∙ rw (able, lengths, fits, some-counted is_report (opens_of t)))
+        (well_kept_is (view t)
+        ∙ rw (able, lengths, fits, some_counted is_report (opens_of t)))

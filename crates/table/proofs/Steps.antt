@@ -14,15 +14,15 @@ use Rattle.rules.specs.States.{is_report, fabric_zero}
 use Rattle.places.specs.Views.{place_of}
 use Rattle.table.specs.Scans.{Lived}
 use Rattle.lists.proofs.Bools.{split}
-use Rattle.lists.proofs.Counts.{count-cons}
-use Rattle.lists.proofs.Parts.{drop-next}
+use Rattle.lists.proofs.Counts.{count_cons}
+use Rattle.lists.proofs.Parts.{drop_next}
 
 module _ (places : List Subscription) (s o : ℕ) (long : length places ≡ 80) (fits : s + o ≤ 80) where
   abbrev live : List Subscription
   live = take s places ++ drop (80 - o) places
 
-  pub live-length : length live ≡ s + o
-  live-length =
+  pub live_length : length live ≡ s + o
+  live_length =
       omega (arith, length-append (take s places) (drop (80 - o) places), length-take-le s places (omega arith), length-drop (80 - o) places)
 
   -- where the i-th live one stands
@@ -42,13 +42,13 @@ module _ (places : List Subscription) (s o : ℕ) (long : length places ≡ 80) 
       ∙ ap (λ k. get_or places k blank) f))
 
 -- and that it is one of the eighty
-pub place-below : (i s o : ℕ) → i < s + o → s + o ≤ 80 → place_of i s (80 - (s + o)) < 80
-place-below i s o h fits =
+pub place_below : (i s o : ℕ) → i < s + o → s + o ≤ 80 → place_of i s (80 - (s + o)) < 80
+place_below i s o h fits =
     split (ltb i s) (λ t. rw t (omega (arith, ltb-true i s t))) (λ t. rw t (omega arith))
 
 -- a sum within a bound, tested without adding
-pub sum-within : (s o m : ℕ) → s ≤ m → leb o (m - s) ≡ leb (s + o) m
-sum-within s o m h =
+pub sum_within : (s o m : ℕ) → s ≤ m → leb o (m - s) ≡ leb (s + o) m
+sum_within s o m h =
     split (leb o (m - s))
     (λ t. t ∙ sym (le-leb (s + o) m (let w = leb-true o (m - s) t in omega arith)))
     (λ t. t ∙ sym (lt-leb (s + o) m (let w = leb-false o (m - s) t in omega arith)))
@@ -64,16 +64,16 @@ module _ (stored opens : List Subscription) where
   abbrev both : List Subscription
   both = stored ++ opens
 
-  pub pass-begin : (ids : List ℕ) → length ids ≡ 80 → Passing stored opens ids false 0 0
-  pass-begin ids long =
+  pub pass_begin : (ids : List ℕ) → length ids ≡ 80 → Passing stored opens ids false 0 0
+  pass_begin ids long =
       let all : 0 - length stored ≡ 0 = omega arith in
       record { long = long; ids_are = refl; orphan_is = refl; reports_are = rw all (omega arith) }
 
   -- one more place: an open report counts, a stored one does not
-  reports-step : (reports i : ℕ) {more : ℕ} (x : Subscription) → count is_report opens ≡ reports + count is_report (drop (i - length stored) opens)
+  reports_step : (reports i : ℕ) {more : ℕ} (x : Subscription) → count is_report opens ≡ reports + count is_report (drop (i - length stored) opens)
       → i < length both → get_or both i blank ≡ x → more ≡ reports + one (leb (length stored) i && x.reporting)
       → count is_report opens ≡ more + count is_report (drop (i + 1 - length stored) opens)
-  reports-step reports i x p h e f =
+  reports_step reports i x p h e f =
       let sizes = length-append stored opens in
       split (leb (length stored) i)
       (λ t. let past = leb-true (length stored) i t in
@@ -82,7 +82,7 @@ module _ (stored opens : List Subscription) where
       sym (get_or-append-add stored opens (i - length stored) blank) ∙ ap (λ k. get_or both k blank) (sym at) ∙ e in
       let next : i + 1 - length stored ≡ i - length stored + 1 = omega arith in
       p
-      ∙ rw (drop-next opens (i - length stored) blank (omega arith), here, count-cons is_report x (drop (i - length stored + 1) opens), f, t, next)
+      ∙ rw (drop_next opens (i - length stored) blank (omega arith), here, count_cons is_report x (drop (i - length stored + 1) opens), f, t, next)
       (omega arith))
       (λ t. let short = leb-false (length stored) i t in
       let still : i + 1 - length stored ≡ i - length stored = omega arith in
@@ -102,12 +102,12 @@ module _ (stored opens : List Subscription) where
         orphan_is =
             p.orphan_is
             ∙ rw (add-one, drop-cons both i blank h, e, f) (sym (or_assoc orphan (fabric_zero x) (some fabric_zero (drop (suc i) both))));
-        reports_are = reports-step reports i x p.reports_are h e g;
+        reports_are = reports_step reports i x p.reports_are h e g;
       }
 
-  pub pass-end : {r : Pass} {i : ℕ} → Passing stored opens r.ids r.orphan r.reports i → i ≡ length both → Lived stored opens r
+  pub pass_end : {r : Pass} {i : ℕ} → Passing stored opens r.ids r.orphan r.reports i → i ≡ length both → Lived stored opens r
   unfolding some count
-  pass-end {r} p e =
+  pass_end {r} p e =
       let all : length both - length stored ≡ length opens = omega (arith, length-append stored opens) in
       record {
         long = p.long;

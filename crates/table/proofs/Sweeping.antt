@@ -13,41 +13,41 @@ abbrev pub SameBut : Table → Table → Type 0
 SameBut t₀ t = t ≡ with_places t₀ t.places t₀.stored t₀.opens
 
 -- stays so through another store
-pub same-on : (t₀ t : Table) (places : List Subscription) → SameBut t₀ t
+pub same_on : (t₀ t : Table) (places : List Subscription) → SameBut t₀ t
     → with_places t places t.stored t.opens ≡ with_places t₀ places t₀.stored t₀.opens
-same-on t₀ t places e = ap (λ u. with_places u places u.stored u.opens) e
+same_on t₀ t places e = ap (λ u. with_places u places u.stored u.opens) e
 
 module _ (p : Subscription → Bool) (i n : ℕ) (places : List Subscription) where
-  pub sweep-out : i < n → p (get_or places i blank) ≡ true
+  pub sweep_out : i < n → p (get_or places i blank) ≡ true
       → swept_from p (n - i) i n places ≡ swept_from p (n - 1 - i) i (n - 1) (swapped places n i)
   unfolding swept_from
-  sweep-out h e = let f : n - i ≡ suc (n - 1 - i) = omega arith in rw (f, e, swept_from)
+  sweep_out h e = let f : n - i ≡ suc (n - 1 - i) = omega arith in rw (f, e, swept_from)
 
-  pub sweep-kept : i < n → p (get_or places i blank) ≡ false → swept_from p (n - i) i n places ≡ swept_from p (n - (i + 1)) (i + 1) n places
+  pub sweep_kept : i < n → p (get_or places i blank) ≡ false → swept_from p (n - i) i n places ≡ swept_from p (n - (i + 1)) (i + 1) n places
   unfolding swept_from
-  sweep-kept h e = let f : n - i ≡ suc (n - (i + 1)) = omega arith in rw (f, e, swept_from)
+  sweep_kept h e = let f : n - i ≡ suc (n - (i + 1)) = omega arith in rw (f, e, swept_from)
 
-  sweep-done : n ≤ i → swept_from p (n - i) i n places ≡ record { places = places; count = n }
+  sweep_done : n ≤ i → swept_from p (n - i) i n places ≡ record { places = places; count = n }
   unfolding swept_from
-  sweep-done h = let f : n - i ≡ 0 = omega arith in rw f
+  sweep_done h = let f : n - i ≡ 0 = omega arith in rw f
 
 -- with nothing left to look at, the places and the count are what the sweep leaves
-pub sweep-end : (p : Subscription → Bool) (t₀ t : Table) (i n : ℕ) → SameBut t₀ t
+pub sweep_end : (p : Subscription → Bool) (t₀ t : Table) (i n : ℕ) → SameBut t₀ t
     → swept_from p t₀.stored 0 t₀.stored t₀.places ≡ swept_from p (n - i) i n t.places → n ≤ i
     → with_places t t.places n t.opens ≡ swept_out p t₀
 unfolding swept_out
-sweep-end p t₀ t i n e f h =
+sweep_end p t₀ t i n e f h =
     ap (λ u. with_places u t.places n u.opens) e
-    ∙ sym (ap (λ s. with_places t₀ s.places s.count t₀.opens) (f ∙ sweep-done p i n t.places h))
+    ∙ sym (ap (λ s. with_places t₀ s.places s.count t₀.opens) (f ∙ sweep_done p i n t.places h))
 
-pub sweep-start : (p : Subscription → Bool) (t : Table)
+pub sweep_start : (p : Subscription → Bool) (t : Table)
     → swept_from p t.stored 0 t.stored t.places ≡ swept_from p (t.stored - 0) 0 t.stored t.places
-sweep-start p t = let f : t.stored - 0 ≡ t.stored = omega arith in rw f
+sweep_start p t = let f : t.stored - 0 ≡ t.stored = omega arith in rw f
 
 -- blanks up to i, and one more
-pub blank-more : (l : List Subscription) (i : ℕ) → i < length l
+pub blank_more : (l : List Subscription) (i : ℕ) → i < length l
     → set (replicate i blank ++ drop i l) i blank ≡ replicate (i + 1) blank ++ drop (i + 1) l
-blank-more l i h =
+blank_more l i h =
     rw (
       drop-cons l i blank h,
       set_at (replicate i blank) (get_or l i blank) (drop (suc i) l) blank i (length-replicate i blank),
@@ -56,7 +56,7 @@ blank-more l i h =
       add-one,
     )
 
-pub empty-end : (t₀ t : Table) (i : ℕ) → SameBut t₀ t → t.places ≡ replicate i blank ++ drop i t₀.places → i ≡ t₀.stored
+pub empty_end : (t₀ t : Table) (i : ℕ) → SameBut t₀ t → t.places ≡ replicate i blank ++ drop i t₀.places → i ≡ t₀.stored
     → with_places t t.places 0 t.opens ≡ emptied t₀
 unfolding emptied
-empty-end t₀ t i e f g = ap (λ u. with_places u t.places 0 u.opens) e ∙ rw (f, g)
+empty_end t₀ t i e f g = ap (λ u. with_places u t.places 0 u.opens) e ∙ rw (f, g)

@@ -7,10 +7,10 @@ use Rattle.refusal.specs.declared.Refusal.{Refusal}
 use Rattle.table.specs.declared.admission.Verdict.TheVariants as verdict
 use Rattle.table.specs.Scans.{as_verdict}
 
-pub verdict-clear : (o : Option Refusal) → verdict.Clear ≡ as_verdict o → o ≡ none
-verdict-clear none e = refl
-verdict-clear (just why) e = absurd (let z : ◌≡◌ {A = ℕ} 0 1 = cc in omega arith)
+pub verdict_clear : (o : Option Refusal) → verdict.Clear ≡ as_verdict o → o ≡ none
+verdict_clear none e = refl
+verdict_clear (just why) e = absurd (let z : ◌≡◌ {A = ℕ} 0 1 = cc in omega arith)
 
-pub verdict-why : (o : Option Refusal) (why : Refusal) → verdict.Refuse why ≡ as_verdict o → o ≡ just why
-verdict-why none why e = absurd (let z : ◌≡◌ {A = ℕ} 0 1 = cc in omega arith)
-verdict-why (just w) why e = cc
+pub verdict_why : (o : Option Refusal) (why : Refusal) → verdict.Refuse why ≡ as_verdict o → o ≡ just why
+verdict_why none why e = absurd (let z : ◌≡◌ {A = ℕ} 0 1 = cc in omega arith)
+verdict_why (just w) why e = cc

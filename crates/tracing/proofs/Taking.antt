@@ -16,20 +16,20 @@ use Rattle.cutting.specs.declared.Reading.{Reading}
 use Rattle.cutting.specs.declared.Stepped.{Stepped}
 use Rattle.cutting.specs.Steps.{step_of, text_in}
 use Rattle.cutting.specs.Steps.{after as read_behind, found as texts_in}
-use Rattle.cutting.proofs.Steps.{after_none, after_next, none_found, next-found}
+use Rattle.cutting.proofs.Steps.{after_none, after_next, none_found, next_found}
 use Rattle.cutting.proofs.Scans.{step_counts}
 use Rattle.lines.specs.declared.Line.{Line}
 use Rattle.lines.specs.declared.Line.TheVariants.{Bad}
 use Rattle.lines.specs.Lines.{line_of}
 use Rattle.lines.specs.Inputs.{line_in}
-use Rattle.lines.proofs.Inputs.{whole-line, bad-line}
+use Rattle.lines.proofs.Inputs.{whole_line, bad_line}
 use Rattle.printing.specs.Answers.{answer_room}
-use Rattle.printing.proofs.Written.{answer-written}
+use Rattle.printing.proofs.Written.{answer_written}
 use Rattle.places.specs.declared.Table.{Table}
 use Rattle.answering.specs.Answers.{answer_in}
 use Rattle.tracing.specs.Runs.{Work, moved, text_of, answered_to, told, byte_in, run_from}
-use Rattle.tracing.proofs.Scanning.{Room, run-full, run-done, run-next}
-use Rattle.tracing.proofs.Telling.{told_lines, table_behind, behind-append, told-append, told_none, told-one, behind-none, behind-one}
+use Rattle.tracing.proofs.Scanning.{Room, run_full, run_done, run_next}
+use Rattle.tracing.proofs.Telling.{told_lines, table_behind, behind_append, told_append, told_none, told_one, behind_none, behind_one}
 
 -- from x to y the lines ls are answered: the table behind them, the text of their answers, a buffer as long as before
 pub record Answers (x y : Work) (ls : List Line) : Type 0 where
@@ -45,7 +45,7 @@ module _ (x : Work) (r : Reading) (held : List ℕ) (k : ℕ) (fits : x.wrote �
 
   still : Answers x there []
   still = record {
-    table = sym (behind-none x.session.table);
+    table = sym (behind_none x.session.table);
     text =
         sym (ap (λ (s : List ℕ). take x.wrote x.out ++ s) (told_none x.session.reading.number x.session.table)
         ∙ append-nil (take x.wrote x.out));
@@ -57,42 +57,42 @@ module _ (x : Work) (r : Reading) (held : List ℕ) (k : ℕ) (fits : x.wrote �
   unfolding answered_to
   answers_one l room e =
       let t = x.session.table in
-      let w = answer-written x.out x.wrote r.number (answer_in t l).reply.code (answer_in t l).reply.value (leb-true (x.wrote + answer_room) (length x.out) room) in
+      let w = answer_written x.out x.wrote r.number (answer_in t l).reply.code (answer_in t l).reply.value (leb-true (x.wrote + answer_room) (length x.out) room) in
       record {
-        table = sym (behind-one t l);
+        table = sym (behind_one t l);
         text =
             w.stands
             ∙ ap (λ (n : ℕ). take x.wrote x.out ++ text_of t n l) e
             ∙ sym (ap (λ (s : List ℕ). take x.wrote x.out ++ s)
-            (told-one x.session.reading.number t l ∙ append-nil (text_of t (x.session.reading.number + 1) l)));
+            (told_one x.session.reading.number t l ∙ append-nil (text_of t (x.session.reading.number + 1) l)));
         long = w.long;
         fits = rw w.long w.fits;
       }
 
   -- what was found is answered
-  pub found-answered : (f : Found) → Room x ≡ true → r.number ≡ x.session.reading.number + length (text_in held f)
+  pub found_answered : (f : Found) → Room x ≡ true → r.number ≡ x.session.reading.number + length (text_in held f)
       → Answers x (told there f) (map line_in (text_in held f))
-  found-answered found.Nothing room e = still
-  found-answered found.Bad room e = rw bad-line (answers_one Bad room e)
-  found-answered (found.Whole n) room e = rw whole-line (answers_one (line_of (take n held)) room e)
+  found_answered found.Nothing room e = still
+  found_answered found.Bad room e = rw bad_line (answers_one Bad room e)
+  found_answered (found.Whole n) room e = rw whole_line (answers_one (line_of (take n held)) room e)
 
-told-used : (x : Work) (f : Found) → (told x f).used ≡ x.used
+told_used : (x : Work) (f : Found) → (told x f).used ≡ x.used
 unfolding answered_to
-told-used x found.Nothing = refl
-told-used x found.Bad = refl
-told-used x (found.Whole n) = refl
+told_used x found.Nothing = refl
+told_used x found.Bad = refl
+told_used x (found.Whole n) = refl
 
-told-reading : (x : Work) (f : Found) → (told x f).session.reading ≡ x.session.reading
+told_reading : (x : Work) (f : Found) → (told x f).session.reading ≡ x.session.reading
 unfolding answered_to
-told-reading x found.Nothing = refl
-told-reading x found.Bad = refl
-told-reading x (found.Whole n) = refl
+told_reading x found.Nothing = refl
+told_reading x found.Bad = refl
+told_reading x (found.Whole n) = refl
 
-told-held : (x : Work) (f : Found) → (told x f).held ≡ x.held
+told_held : (x : Work) (f : Found) → (told x f).held ≡ x.held
 unfolding answered_to
-told-held x found.Nothing = refl
-told-held x found.Bad = refl
-told-held x (found.Whole n) = refl
+told_held x found.Nothing = refl
+told_held x found.Bad = refl
+told_held x (found.Whole n) = refl
 
 -- the lines that end in bytes
 abbrev pub lines_in : Work → List ℕ → List Line
@@ -127,17 +127,17 @@ module _ (x : Work) (b : ℕ) (s : List ℕ) (y : Work) (fits : x.wrote ≤ leng
   abbrev step : Stepped × List ℕ
   step = step_of r x.held b
 
-  abbrev there-on : Work
-  there-on = moved x step.0.reading step.1 1
+  abbrev there_on : Work
+  there_on = moved x step.0.reading step.1 1
 
   abbrev next : Work
-  next = told there-on step.0.found
+  next = told there_on step.0.found
 
   abbrev ended : List Line
   ended = map line_in (text_in step.1 step.0.found)
 
   first : Answers x next ended
-  first = found-answered x step.0.reading step.1 1 fits step.0.found room (step_counts r x.held b)
+  first = found_answered x step.0.reading step.1 1 fits step.0.found room (step_counts r x.held b)
 
   -- the lines of the rest, from what stands behind the byte
   behind : List ℕ → List Line
@@ -148,11 +148,11 @@ module _ (x : Work) (b : ℕ) (s : List ℕ) (y : Work) (fits : x.wrote ≤ leng
   two q p =
       let n = next.session.reading.number in
       let e : n ≡ r.number + length ended =
-      ap (λ (z : Reading). z.number) (told-reading there-on step.0.found)
+      ap (λ (z : Reading). z.number) (told_reading there_on step.0.found)
       ∙ step_counts r x.held b
       ∙ ap (λ (k : ℕ). r.number + k) (sym (length-map (text_in step.1 step.0.found) line_in)) in
       record {
-        table = p.table ∙ ap (λ (t : Table). table_behind t (behind q)) first.table ∙ sym (behind-append x.session.table ended (behind q));
+        table = p.table ∙ ap (λ (t : Table). table_behind t (behind q)) first.table ∙ sym (behind_append x.session.table ended (behind q));
         text =
             p.text
             ∙ ap (λ (k : List ℕ). k ++ told_lines n next.session.table (behind q)) first.text
@@ -160,7 +160,7 @@ module _ (x : Work) (b : ℕ) (s : List ℕ) (y : Work) (fits : x.wrote ≤ leng
             ∙ ap (λ (k : List ℕ). take x.wrote x.out ++ k)
             (ap (λ (k : ℕ). told_lines r.number x.session.table ended ++ told_lines k next.session.table (behind q)) e
             ∙ ap (λ (t : Table). told_lines r.number x.session.table ended ++ told_lines (r.number + length ended) t (behind q)) first.table
-            ∙ sym (told-append r.number x.session.table ended (behind q)));
+            ∙ sym (told_append r.number x.session.table ended (behind q)));
         long = p.long ∙ first.long;
         fits = p.fits;
       }
@@ -168,9 +168,9 @@ module _ (x : Work) (b : ℕ) (s : List ℕ) (y : Work) (fits : x.wrote ≤ leng
   more : Took next s y → Took x (b ∷ s) y
   unfolding behind
   more p =
-      let u = told-used there-on step.0.found in
-      let g = told-reading there-on step.0.found in
-      let h = told-held there-on step.0.found in
+      let u = told_used there_on step.0.found in
+      let g = told_reading there_on step.0.found in
+      let h = told_held there_on step.0.found in
       let m : y.used - x.used ≡ suc (y.used - next.used) = omega (arith, p.from) in
       let q = take (y.used - next.used) s in
       record {
@@ -180,7 +180,7 @@ module _ (x : Work) (b : ℕ) (s : List ℕ) (y : Work) (fits : x.wrote ≤ leng
             rw (m, after_next r x.held b q)
             (p.read ∙ ap (λ (z : Reading). read_behind z next.held q) g ∙ ap (λ (l : List ℕ). read_behind step.0.reading l q) h);
         answered =
-            rw (m, next-found r x.held b q, map-append)
+            rw (m, next_found r x.held b q, map-append)
             (two q (rw (g, h) at p.answered));
         all = λ full. omega (arith, p.all full);
         moves = λ room some. omega (arith, p.from);
@@ -188,9 +188,9 @@ module _ (x : Work) (b : ℕ) (s : List ℕ) (y : Work) (fits : x.wrote ≤ leng
 
 pub takes : (x : Work) (s : List ℕ) → x.wrote ≤ length x.out → Took x s (run_from x s)
 unfolding byte_in
-takes x [] fits = rw (run-done x) (nothing x [] fits (λ room. refl))
+takes x [] fits = rw (run_done x) (nothing x [] fits (λ room. refl))
 takes x (b ∷ s) fits =
     split (Room x)
-    (λ room. rw (run-next x b s room)
+    (λ room. rw (run_next x b s room)
     (more x b s (run_from (byte_in x b) s) fits room (takes (byte_in x b) s (first x b s x fits room).fits)))
-    (λ full. rw (run-full x (b ∷ s) full) (nothing x (b ∷ s) fits (λ room. absurd (clash room full))))
+    (λ full. rw (run_full x (b ∷ s) full) (nothing x (b ∷ s) fits (λ room. absurd (clash room full))))

@@ -15,7 +15,7 @@ use Rattle.places.specs.Views.{view, kept}
 use Rattle.places.specs.Tidiness.{Whole}
 use Rattle.answering.specs.Answers.{answer_in}
 use Rattle.answering.specs.Rules.{Said}
-use Rattle.answering.proofs.Agrees.{answer-agrees, answer-whole, answer-kept}
+use Rattle.answering.proofs.Agrees.{answer_agrees, answer_whole, answer_kept}
 use Rattle.tracing.specs.Trace.{trace_from}
 use Rattle.tracing.specs.Runs.{text_of}
 
@@ -28,20 +28,20 @@ unfoldable pub table_behind : Table → List Line → Table
 table_behind t [] = t
 table_behind t (l ∷ ls) = table_behind (answer_in t l).table ls
 
-pub behind-append : (t : Table) (ls ms : List Line) → table_behind t (ls ++ ms) ≡ table_behind (table_behind t ls) ms
+pub behind_append : (t : Table) (ls ms : List Line) → table_behind t (ls ++ ms) ≡ table_behind (table_behind t ls) ms
 unfolding table_behind
-behind-append t [] ms = refl
-behind-append t (l ∷ ls) ms = behind-append (answer_in t l).table ls ms
+behind_append t [] ms = refl
+behind_append t (l ∷ ls) ms = behind_append (answer_in t l).table ls ms
 
-pub told-append : (n : ℕ) (t : Table) (ls ms : List Line)
+pub told_append : (n : ℕ) (t : Table) (ls ms : List Line)
     → told_lines n t (ls ++ ms) ≡ told_lines n t ls ++ told_lines (n + length ls) (table_behind t ls) ms
 unfolding told_lines table_behind
-told-append n t [] ms = rw add-zero
-told-append n t (l ∷ ls) ms =
+told_append n t [] ms = rw add-zero
+told_append n t (l ∷ ls) ms =
     let u = (answer_in t l).table in
     let e : n + 1 + length ls ≡ n + length (l ∷ ls) = omega arith in
     ap (λ (s : List ℕ). text_of t (n + 1) l ++ s)
-    (told-append (n + 1) u ls ms ∙ ap (λ (k : ℕ). told_lines (n + 1) u ls ++ told_lines k (table_behind u ls) ms) e)
+    (told_append (n + 1) u ls ms ∙ ap (λ (k : ℕ). told_lines (n + 1) u ls ++ told_lines k (table_behind u ls) ms) e)
     ∙ sym (append_assoc (text_of t (n + 1) l) (told_lines (n + 1) u ls) (told_lines (n + length (l ∷ ls)) (table_behind u ls) ms))
 
 -- no line, and one
@@ -49,22 +49,22 @@ pub told_none : (n : ℕ) (t : Table) → told_lines n t [] ≡ []
 unfolding told_lines
 told_none n t = refl
 
-pub told-one : (n : ℕ) (t : Table) (l : Line) → told_lines n t (l ∷ []) ≡ text_of t (n + 1) l ++ []
+pub told_one : (n : ℕ) (t : Table) (l : Line) → told_lines n t (l ∷ []) ≡ text_of t (n + 1) l ++ []
 unfolding told_lines
-told-one n t l = refl
+told_one n t l = refl
 
-pub behind-none : (t : Table) → table_behind t [] ≡ t
+pub behind_none : (t : Table) → table_behind t [] ≡ t
 unfolding table_behind
-behind-none t = refl
+behind_none t = refl
 
-pub behind-one : (t : Table) (l : Line) → table_behind t (l ∷ []) ≡ (answer_in t l).table
+pub behind_one : (t : Table) (l : Line) → table_behind t (l ∷ []) ≡ (answer_in t l).table
 unfolding table_behind
-behind-one t l = refl
+behind_one t l = refl
 
 -- by the rules
-pub told-traces : (n : ℕ) (t : Table) (ls : List Line) → Whole t → kept t ≡ true → told_lines n t ls ≡ trace_from n ls (view t)
+pub told_traces : (n : ℕ) (t : Table) (ls : List Line) → Whole t → kept t ≡ true → told_lines n t ls ≡ trace_from n ls (view t)
 unfolding told_lines trace_from
-told-traces n t [] w h = refl
-told-traces n t (l ∷ ls) w h =
-    ap (λ (s : List ℕ). text_of t (n + 1) l ++ s) (told-traces (n + 1) (answer_in t l).table ls (answer-whole t w l) (answer-kept t w h l))
-    ∙ ap (λ (s : Said). answer_of (n + 1) s.reply.code s.reply.value ++ trace_from (n + 1) ls s.state) (answer-agrees t w h l)
+told_traces n t [] w h = refl
+told_traces n t (l ∷ ls) w h =
+    ap (λ (s : List ℕ). text_of t (n + 1) l ++ s) (told_traces (n + 1) (answer_in t l).table ls (answer_whole t w l) (answer_kept t w h l))
+    ∙ ap (λ (s : Said). answer_of (n + 1) s.reply.code s.reply.value ++ trace_from (n + 1) ls s.state) (answer_agrees t w h l)

@@ -16,8 +16,8 @@ pub record Alike {A : Type 0} (d : A) (n i : ℕ) (a b : List A) : Type 0 where
   pub second_long : length b ≡ n
 
 module _ {A : Type 0} (d : A) {n : ℕ} {a b : List A} where
-  pub alike-none : length a ≡ n → length b ≡ n → Alike d n 0 a b
-  alike-none h k = record { same = below_none _; within = omega arith; first_long = h; second_long = k }
+  pub alike_none : length a ≡ n → length b ≡ n → Alike d n 0 a b
+  alike_none h k = record { same = below_none _; within = omega arith; first_long = h; second_long = k }
 
   pub alike_next : {i : ℕ} → Alike d n i a b → i < n → get_or a i d ≡ get_or b i d → Alike d n (i + 1) a b
   alike_next {i} h l e =

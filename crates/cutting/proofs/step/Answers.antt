@@ -1,25 +1,25 @@
 -- `step` meets its contract: each return is one case of `step_of`.
 -- Assumes nothing.
 use mathlib.Core.Path.{sym}
-use Rattle.cutting.proofs.Steps.{step-stopped, step-ended, step-lone-LF, step-lone-CR, step_waits, step-behind, step-held, step-full}
+use Rattle.cutting.proofs.Steps.{step_stopped, step_ended, step_lone_LF, step_lone_CR, step_waits, step_behind, step_held, step_full}
 use Rattle.cutting.proofs.step.Goals as goal
 
 pub returns-then-r : goal.returns-then-r
-returns-then-r c = rw c.still.ensures (sym (step-stopped _ _ _ c.if-r.true))
+returns-then-r c = rw c.still.ensures (sym (step_stopped _ _ _ c.if-r.true))
 
 pub returns-then-r-2 : goal.returns-then-r-2
 returns-then-r-2 c =
     rw (c.ended.ensures, c.ending.ensures)
-    (sym (step-ended _ _ _ c.if-r.false c.if-b-eq10.true c.if-r-2.true))
+    (sym (step_ended _ _ _ c.if-r.false c.if-b-eq10.true c.if-r-2.true))
 
 pub returns-then-b-eq10 : goal.returns-then-b-eq10
 returns-then-b-eq10 c =
-    rw c.spoilt.ensures (sym (step-lone-LF _ _ _ c.if-r.false c.if-b-eq10.true c.if-r-2.false))
+    rw c.spoilt.ensures (sym (step_lone_LF _ _ _ c.if-r.false c.if-b-eq10.true c.if-r-2.false))
 
 pub returns-then-r-3 : goal.returns-then-r-3
 returns-then-r-3 c =
     rw c.spoilt-then-r-3.ensures
-    (sym (step-lone-CR _ _ _ c.if-r.false c.if-b-eq10.false c.if-b-eq13.true c.if-r-3.true))
+    (sym (step_lone_CR _ _ _ c.if-r.false c.if-b-eq10.false c.if-b-eq13.true c.if-r-3.true))
 
 pub returns-then-b-eq13 : goal.returns-then-b-eq13
 returns-then-b-eq13 c =
@@ -29,14 +29,14 @@ returns-then-b-eq13 c =
 pub returns-then-r-4 : goal.returns-then-r-4
 returns-then-r-4 c =
     rw c.spoilt-then-r-4.ensures
-    (sym (step-behind _ _ _ c.if-r.false c.if-b-eq10.false c.if-b-eq13.false c.if-r-4.true))
+    (sym (step_behind _ _ _ c.if-r.false c.if-b-eq10.false c.if-b-eq13.false c.if-r-4.true))
 
 pub returns-then-n-held : goal.returns-then-n-held
 returns-then-n-held c =
     rw c.holding.ensures
-    (sym (step-held _ _ _ c.if-r.false c.if-b-eq10.false c.if-b-eq13.false c.if-r-4.false c.if-n-held.true))
+    (sym (step_held _ _ _ c.if-r.false c.if-b-eq10.false c.if-b-eq13.false c.if-r-4.false c.if-n-held.true))
 
 pub returns : goal.returns
 returns c =
     rw c.spoilt-2.ensures
-    (sym (step-full _ _ _ c.if-r.false c.if-b-eq10.false c.if-b-eq13.false c.if-r-4.false c.if-n-held.false))
+    (sym (step_full _ _ _ c.if-r.false c.if-b-eq10.false c.if-b-eq13.false c.if-r-4.false c.if-n-held.false))

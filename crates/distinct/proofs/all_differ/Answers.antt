@@ -3,14 +3,14 @@
 use mathlib.Core.Path.{◌≡◌, refl, sym}
 use native.Mathlib.Omega.{arith}
 use lib.Seq.{take-length}
-use Rattle.distinct.proofs.Marks.{mark-begin, mark-step}
+use Rattle.distinct.proofs.Marks.{mark_begin, mark_step}
 use Rattle.distinct.proofs.all_differ.Goals as goal
 
 pub loop-i-init : goal.loop-i-init
-loop-i-init c = mark-begin _ _ refl
+loop-i-init c = mark_begin _ _ refl
 
 pub loop-i-preserved : goal.loop-i-preserved
-loop-i-preserved c = mark-step _ _ _ c.loop-i.invariant (omega arith) c.if-seen-residue.false
+loop-i-preserved c = mark_step _ _ _ c.loop-i.invariant (omega arith) c.if-seen-residue.false
 
 pub returns : goal.returns
 returns c =

@@ -9,7 +9,7 @@ use lib.ListN.{drop, get_or, drop_of_length-le}
 use borrow.Author.Tests.{eq-eqb, ne_eqb}
 use Rattle.fields.specs.Fields.{field_of}
 use Rattle.fields.proofs.Fields.{field_from, field_is}
-use Rattle.lists.proofs.Parts.{drop-next}
+use Rattle.lists.proofs.Parts.{drop_next}
 use Rattle.fields.proofs.read_field.Goals as goal
 use Rattle.fields.proofs.read_field.Goals.{After-loop-i, In-loop-i}
 
@@ -17,7 +17,7 @@ use Rattle.fields.proofs.read_field.Goals.{After-loop-i, In-loop-i}
 here : (c : In-loop-i) →
     let a = c.args in let k = c.loop-i in
     field_of a.most a.s.now ≡ field_from a.most k.v k.i (get_or a.s.now k.i 0 ∷ drop (k.i + 1) a.s.now)
-here c = c.loop-i.invariant.0 ∙ ap (field_from _ _ _) (drop-next _ _ 0 c.loop-i-test.true)
+here c = c.loop-i.invariant.0 ∙ ap (field_from _ _ _) (drop_next _ _ 0 c.loop-i-test.true)
 
 done : (c : After-loop-i) →
     let a = c.args in let k = c.loop-i in

@@ -12,8 +12,8 @@ use borrow.Author.Tests.{le-leb, lt-leb}
 use borrow.Author.Rules.{rules}
 use Rattle.fields.specs.Rows.{numbers_from, numbers_of}
 use Rattle.fields.specs.Fields.{field_of}
-use Rattle.fields.proofs.Rows.{numbers-nothing, part-begins, none_left, some_left}
-use Rattle.lists.proofs.Parts.{drop-next, rest}
+use Rattle.fields.proofs.Rows.{numbers_nothing, part_begins, none_left, some_left}
+use Rattle.lists.proofs.Parts.{drop_next, rest}
 use Rattle.fields.proofs.read_fields.Goals as goal
 use Rattle.fields.proofs.read_fields.Goals.{After-read_field, In-loop-j}
 
@@ -24,7 +24,7 @@ here : (c : In-loop-j) →
     ≡ numbers_from (get_or a.widths.now k.j 0 ∷ drop (k.j + 1) a.widths.now) k.v k.j (drop k.at a.s.now)
 here c =
     let a = c.args in let k = c.loop-j in
-    k.invariant.0 ∙ ap (λ (l : List ℕ). numbers_from l k.v k.j (drop k.at a.s.now)) (drop-next _ _ 0 c.loop-j-test.true)
+    k.invariant.0 ∙ ap (λ (l : List ℕ). numbers_from l k.v k.j (drop k.at a.s.now)) (drop_next _ _ 0 c.loop-j-test.true)
 
 -- the field that was read is the one at the front of what is left
 read : (c : After-read_field) →
@@ -38,7 +38,7 @@ unfolding numbers_of
 returns-then-widths-gt-PLACES c = simp (lt-leb _ _ c.if-widths-gt-PLACES.true)
 
 pub returns-then-s-from : goal.returns-then-s-from
-returns-then-s-from c = sym (ap (numbers_of _) (drop_of_length-le _ (le_of_lt c.if-s-from.true)) ∙ numbers-nothing _)
+returns-then-s-from c = sym (ap (numbers_of _) (drop_of_length-le _ (le_of_lt c.if-s-from.true)) ∙ numbers_nothing _)
 
 pub loop-j-init : goal.loop-j-init
 unfolding numbers_of
@@ -62,7 +62,7 @@ returns-in-Last c =
 
 pub overflow_add-at : goal.overflow_add-at
 overflow_add-at c =
-    omega (arith, part-begins _ _ _ _ _ _ c.loop-j.invariant.1.1 (read (goal.at.overflow_add-at c).After-read_field) c.in-More.is)
+    omega (arith, part_begins _ _ _ _ _ _ c.loop-j.invariant.1.1 (read (goal.at.overflow_add-at c).After-read_field) c.in-More.is)
 
 pub loop-j-preserved : goal.loop-j-preserved
 unfolding numbers_from
@@ -71,7 +71,7 @@ loop-j-preserved c =
       here (goal.at.loop-j-preserved c).In-loop-j ∙ simp (sym (read (goal.at.loop-j-preserved c).After-read_field), c.in-More.is, drop-drop),
       (
         search rules,
-        part-begins _ _ _ _ _ _ k.invariant.1.1 (read (goal.at.loop-j-preserved c).After-read_field) c.in-More.is,
+        part_begins _ _ _ _ _ _ k.invariant.1.1 (read (goal.at.loop-j-preserved c).After-read_field) c.in-More.is,
         simp length-set k.invariant.1.2,
       ),
     )

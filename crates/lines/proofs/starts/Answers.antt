@@ -8,7 +8,7 @@ use lib.ListN.{length, drop, get_or, drop_of_length-le}
 use borrow.Author.Tests.{eq-eqb, ne_eqb}
 use borrow.Author.Rules.{rules}
 use Rattle.lines.specs.Lines.{begins}
-use Rattle.lists.proofs.Parts.{drop-next}
+use Rattle.lists.proofs.Parts.{drop_next}
 use Rattle.lines.proofs.starts.Goals as goal
 use Rattle.lines.proofs.starts.Goals.{In-loop-i}
 
@@ -16,7 +16,7 @@ use Rattle.lines.proofs.starts.Goals.{In-loop-i}
 here : (c : In-loop-i) →
     let a = c.args in let i = c.loop-i.i in
     begins a.word.now a.s.now ≡ begins (get_or a.word.now i 0 ∷ drop (i + 1) a.word.now) (drop i a.s.now)
-here c = c.loop-i.invariant.0 ∙ ap (λ (l : List ℕ). begins l (drop c.loop-i.i c.args.s.now)) (drop-next _ _ 0 c.loop-i-test.true)
+here c = c.loop-i.invariant.0 ∙ ap (λ (l : List ℕ). begins l (drop c.loop-i.i c.args.s.now)) (drop_next _ _ 0 c.loop-i-test.true)
 
 pub loop-i-init : goal.loop-i-init
 loop-i-init c = (refl, omega arith)
@@ -28,12 +28,12 @@ returns-then-s-i c = sym (here (goal.at.returns-then-s-i c).In-loop-i ∙ rw (dr
 pub returns-then-s-i-2 : goal.returns-then-s-i-2
 unfolding begins
 returns-then-s-i-2 c =
-    sym (here (goal.at.returns-then-s-i-2 c).In-loop-i ∙ rw (drop-next {A = ℕ} _ _ 0 c.if-s-i.false, ne_eqb _ _ c.if-s-i-2.true))
+    sym (here (goal.at.returns-then-s-i-2 c).In-loop-i ∙ rw (drop_next {A = ℕ} _ _ 0 c.if-s-i.false, ne_eqb _ _ c.if-s-i-2.true))
 
 pub loop-i-preserved : goal.loop-i-preserved
 unfolding begins
 loop-i-preserved c =
-    (here (goal.at.loop-i-preserved c).In-loop-i ∙ rw (drop-next {A = ℕ} _ _ 0 c.if-s-i.false, eq-eqb _ _ c.if-s-i-2.false), omega arith)
+    (here (goal.at.loop-i-preserved c).In-loop-i ∙ rw (drop_next {A = ℕ} _ _ 0 c.if-s-i.false, eq-eqb _ _ c.if-s-i-2.false), omega arith)
 
 pub returns : goal.returns
 unfolding begins

@@ -8,7 +8,7 @@ use lib.ListN.{length, drop, get_or, drop_of_length-le}
 use borrow.Author.Tests.{eq-eqb, ne_eqb}
 use borrow.Author.Rules.{rules}
 use Rattle.lines.specs.Lines.{begins}
-use Rattle.lists.proofs.Parts.{drop-next}
+use Rattle.lists.proofs.Parts.{drop_next}
 use Rattle.lines.proofs.starts.Given as goal
 
 abbrev pub invariant-loop-i : goal.invariant-loop-i

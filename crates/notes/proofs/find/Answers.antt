@@ -4,7 +4,7 @@ use mathlib.Core.Path.{sym, ◌∙◌}
 use native.Mathlib.Omega.{arith}
 use borrow.Author.Rules.{rules}
 use Rattle.entries.specs.Paths.{blank, holds}
-use Rattle.lists.proofs.Arrays.{first-here, first_next, first_done}
+use Rattle.lists.proofs.Arrays.{first_here, first_next, first_done}
 use Rattle.notes.proofs.find.Goals as goal
 
 pub loop-i-init : goal.loop-i-init
@@ -18,7 +18,7 @@ returns-then-meets c =
     let at = c.loop-i in
     omega (
       arith,
-      first-here (holds a.rule) at.i a.held.len a.held.entries blank (omega arith) (omega arith)
+      first_here (holds a.rule) at.i a.held.len a.held.entries blank (omega arith) (omega arith)
           (sym c.meets.ensures ∙ c.if-meets.true),
     )
 

@@ -5,7 +5,7 @@ use native.Mathlib.Omega.{arith}
 use borrow.Author.Rules.{rules}
 use Rattle.notes.specs.Places.{listed}
 use Rattle.notes.specs.Notes.{largest}
-use Rattle.notes.proofs.Steps.{largest-next, largest-done}
+use Rattle.notes.proofs.Steps.{largest_next, largest_done}
 use Rattle.notes.proofs.largest_group.Goals as goal
 
 pub loop-i-init : goal.loop-i-init
@@ -19,7 +19,7 @@ loop-i-preserved c =
     let a = c.args in
     let at = c.loop-i in
     let held = a.held in (
-      at.invariant.0 ∙ largest-next at.i held.len held.entries (omega arith) a.level (listed held) at.best (omega arith)
+      at.invariant.0 ∙ largest_next at.i held.len held.entries (omega arith) a.level (listed held) at.best (omega arith)
           c.larger_group-best.ensures c.group_of-group.ensures,
       search rules,
     )
@@ -29,5 +29,5 @@ returns c =
     let a = c.args in
     let at = c.loop-i in
     let held = a.held in
-    sym (at.invariant.0 ∙ largest-done at.i held.len held.entries (omega arith) a.level (listed held) at.best
+    sym (at.invariant.0 ∙ largest_done at.i held.len held.entries (omega arith) a.level (listed held) at.best
     (omega arith) (omega arith))

@@ -4,7 +4,7 @@ use mathlib.Core.Path.{sym, ◌∙◌}
 use native.Mathlib.Omega.{arith}
 use borrow.Author.Rules.{rules}
 use Rattle.entries.specs.Paths.{holds}
-use Rattle.notes.proofs.Steps.{newest-hit, newest-miss, newest-done}
+use Rattle.notes.proofs.Steps.{newest_hit, newest_miss, newest_done}
 use Rattle.notes.proofs.newest_of.Goals as goal
 
 pub loop-i-init : goal.loop-i-init
@@ -18,7 +18,7 @@ loop-i-preserved-then-meets c =
     let at = c.loop-i in (
       omega (
         arith,
-        newest-hit at.i a.held.len a.held.entries (omega arith) (holds a.rule) (omega arith)
+        newest_hit at.i a.held.len a.held.entries (omega arith) (holds a.rule) (omega arith)
             (sym c.meets.ensures ∙ c.if-meets.true),
       ),
       search rules,
@@ -30,7 +30,7 @@ loop-i-preserved c =
     let at = c.loop-i in (
       omega (
         arith,
-        newest-miss at.i a.held.len a.held.entries (omega arith) (holds a.rule) (omega arith)
+        newest_miss at.i a.held.len a.held.entries (omega arith) (holds a.rule) (omega arith)
             (sym c.meets.ensures ∙ c.if-meets.false),
       ),
       search rules,
@@ -40,4 +40,4 @@ pub returns : goal.returns
 returns c =
     let a = c.args in
     let at = c.loop-i in
-    omega (arith, newest-done at.i a.held.len a.held.entries (omega arith) (holds a.rule) (omega arith) (omega arith))
+    omega (arith, newest_done at.i a.held.len a.held.entries (omega arith) (holds a.rule) (omega arith) (omega arith))

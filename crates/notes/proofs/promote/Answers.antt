@@ -3,16 +3,16 @@
 use native.Mathlib.Omega.{arith}
 use Rattle.notes.specs.Places.{listed}
 use Rattle.notes.specs.Notes.{folded}
-use Rattle.notes.proofs.Groups.{swept-room}
-use Rattle.notes.proofs.Steps.{holds_as, entries-length}
+use Rattle.notes.proofs.Groups.{swept_room}
+use Rattle.notes.proofs.Steps.{holds_as, entries_length}
 use Rattle.notes.proofs.promote.Goals as goal
 
 pub push-requires : goal.push-requires
 push-requires c =
     let a = c.args in
     let held = a.held in
-    let is = entries-length held (c.well_formed.0.1.1.0.1.0.1) (omega arith) in
-    omega (arith, swept-room (listed held) a.by (omega arith) c.requires.1, c.swept-rest.ensures.counts)
+    let is = entries_length held (c.well_formed.0.1.1.0.1.0.1) (omega arith) in
+    omega (arith, swept_room (listed held) a.by (omega arith) c.requires.1, c.swept-rest.ensures.counts)
 
 pub returns : goal.returns
 unfolding folded

@@ -9,22 +9,22 @@ use lib.ListN.{length}
 use Rattle.entries.specs.declared.Level.TheVariants.{Cluster, Endpoint}
 use Rattle.notes.specs.Places.{listed}
 use Rattle.notes.specs.Notes.{placed}
-use Rattle.notes.proofs.Groups.{largest-covers, folded-room}
-use Rattle.notes.proofs.Cases.{crowded-fine, crowded-coarse, crowded-wild}
-use Rattle.notes.proofs.Steps.{holds_as, entries-length}
+use Rattle.notes.proofs.Groups.{largest_covers, folded_room}
+use Rattle.notes.proofs.Cases.{crowded_fine, crowded_coarse, crowded_wild}
+use Rattle.notes.proofs.Steps.{holds_as, entries_length}
 use Rattle.notes.proofs.promote_and_insert.Goals as goal
 use Rattle.notes.proofs.promote_and_insert.Goals.{Start}
 
 -- there are at most sixteen entries
 fits : (c : Start) → length (listed c.args.held) ≤ 16
 fits c =
-    let is = entries-length c.args.held (c.well_formed.0.1.1.0.1.0.1) (search rules) in
+    let is = entries_length c.args.held (c.well_formed.0.1.1.0.1.0.1) (search rules) in
     omega arith
 
 pub promote-requires : goal.promote-requires
 promote-requires c = (
   search rules,
-  largest-covers (listed c.args.held) Cluster
+  largest_covers (listed c.args.held) Cluster
       c.largest_group-fine.ensures c.if-fine-gt1.true,
 )
 
@@ -34,9 +34,9 @@ insert-requires c =
     omega (
       arith,
       c.promote.ensures.counts,
-      folded-room l c.largest_group-fine.result.by
+      folded_room l c.largest_group-fine.result.by
           (fits (goal.at.insert-requires c).Start)
-          (largest-covers l Cluster c.largest_group-fine.ensures c.if-fine-gt1.true),
+          (largest_covers l Cluster c.largest_group-fine.ensures c.if-fine-gt1.true),
     )
 
 pub returns-then-fine-gt1 : goal.returns-then-fine-gt1
@@ -45,12 +45,12 @@ returns-then-fine-gt1 c =
     let fine = c.largest_group-fine.ensures in
     holds_as c.insert.ensures
     (ap (placed a.new) c.promote.ensures.lives
-    ∙ crowded-fine a.new (listed a.held) fine c.if-fine-gt1.true)
+    ∙ crowded_fine a.new (listed a.held) fine c.if-fine-gt1.true)
 
 pub promote-requires-then-coarse-gt1 : goal.promote-requires-then-coarse-gt1
 promote-requires-then-coarse-gt1 c = (
   search rules,
-  largest-covers (listed c.args.held) Endpoint
+  largest_covers (listed c.args.held) Endpoint
       c.largest_group-coarse.ensures c.if-coarse-gt1.true,
 )
 
@@ -60,9 +60,9 @@ insert-requires-then-coarse-gt1 c =
     omega (
       arith,
       c.promote-then-coarse-gt1.ensures.counts,
-      folded-room l c.largest_group-coarse.result.by
+      folded_room l c.largest_group-coarse.result.by
           (fits (goal.at.insert-requires-then-coarse-gt1 c).Start)
-          (largest-covers l Endpoint c.largest_group-coarse.ensures c.if-coarse-gt1.true),
+          (largest_covers l Endpoint c.largest_group-coarse.ensures c.if-coarse-gt1.true),
     )
 
 pub returns-then-coarse-gt1 : goal.returns-then-coarse-gt1
@@ -72,7 +72,7 @@ returns-then-coarse-gt1 c =
     let coarse = c.largest_group-coarse.ensures in
     holds_as c.insert-then-coarse-gt1.ensures
     (ap (placed a.new) c.promote-then-coarse-gt1.ensures.lives
-    ∙ crowded-coarse a.new (listed a.held) fine coarse c.if-fine-gt1.false
+    ∙ crowded_coarse a.new (listed a.held) fine coarse c.if-fine-gt1.false
     c.if-coarse-gt1.true)
 
 pub returns : goal.returns
@@ -81,4 +81,4 @@ returns c =
     let fine = c.largest_group-fine.ensures in
     let coarse = c.largest_group-coarse.ensures in
     holds_as c.alone.ensures
-    (crowded-wild a.new (listed a.held) fine coarse c.if-fine-gt1.false c.if-coarse-gt1.false)
+    (crowded_wild a.new (listed a.held) fine coarse c.if-fine-gt1.false c.if-coarse-gt1.false)

@@ -8,14 +8,14 @@ use lib.ListN.{length}
 use Rattle.notes.specs.Places.{listed}
 use Rattle.entries.specs.Paths.{over, under}
 use Rattle.lists.specs.Removal.{sweep}
-use Rattle.notes.proofs.Cases.{entered-found, entered-new, inserted-room, inserted-full}
-use Rattle.notes.proofs.Steps.{found, holds_as, entries-length, refreshed-at}
+use Rattle.notes.proofs.Cases.{entered_found, entered_new, inserted_room, inserted_full}
+use Rattle.notes.proofs.Steps.{found, holds_as, entries_length, refreshed_at}
 use Rattle.notes.proofs.record_raw.Goals as goal
 use Rattle.notes.proofs.record_raw.Goals.{Start}
 
 -- the number of entries is the length of their list
 counts : (c : Start) → length (listed c.args.held) ≡ c.args.held.len
-counts c = entries-length c.args.held (c.well_formed.0.1.1.0.1.0.1) (search rules)
+counts c = entries_length c.args.held (c.well_formed.0.1.1.0.1.0.1) (search rules)
 
 pub returns-then-at-held : goal.returns-then-at-held
 returns-then-at-held c =
@@ -26,7 +26,7 @@ returns-then-at-held c =
     let at = c.find-at.ensures in
     let there = sym (found (over new) (listed held) is at) ∙ lt-ltb _ _ c.if-at-held.true in
     holds_as c.refresh.ensures
-    (refreshed-at new (listed held) is at c.if-at-held.true ∙ entered-found new (listed held) there)
+    (refreshed_at new (listed held) is at c.if-at-held.true ∙ entered_found new (listed held) there)
 
 pub returns-then-rest-lt16 : goal.returns-then-rest-lt16
 returns-then-rest-lt16 c =
@@ -38,7 +38,7 @@ returns-then-rest-lt16 c =
     let none = sym (found (over new) (listed held) is at) ∙ le-ltb _ _ c.if-at-held.false in
     let rest = c.swept-rest.ensures in
     holds_as c.push.ensures (rw rest.lives
-    (inserted-room new (sweep (under new) (listed held)) (omega (arith, rest.counts)) ∙ entered-new new (listed held) none))
+    (inserted_room new (sweep (under new) (listed held)) (omega (arith, rest.counts)) ∙ entered_new new (listed held) none))
 
 pub returns : goal.returns
 returns c =
@@ -50,4 +50,4 @@ returns c =
     let none = sym (found (over new) (listed held) is at) ∙ le-ltb _ _ c.if-at-held.false in
     let rest = c.swept-rest.ensures in
     holds_as c.promote_and_insert.ensures (rw rest.lives
-    (inserted-full new (sweep (under new) (listed held)) (omega (arith, rest.counts)) ∙ entered-new new (listed held) none))
+    (inserted_full new (sweep (under new) (listed held)) (omega (arith, rest.counts)) ∙ entered_new new (listed held) none))

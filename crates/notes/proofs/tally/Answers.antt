@@ -5,7 +5,7 @@ use native.Mathlib.Omega.{arith}
 use borrow.Author.Rules.{rules}
 use Rattle.entries.specs.Paths.{blank, holds}
 use Rattle.lists.specs.Search.{one}
-use Rattle.lists.proofs.Arrays.{count_next, count-done}
+use Rattle.lists.proofs.Arrays.{count_next, count_done}
 use Rattle.notes.proofs.tally.Goals as goal
 
 pub loop-i-init : goal.loop-i-init
@@ -31,4 +31,4 @@ pub returns : goal.returns
 returns c =
     let a = c.args in
     let at = c.loop-i in
-    omega (arith, count-done (holds a.rule) at.i a.held.len a.held.entries blank (omega arith) (omega arith) (omega arith))
+    omega (arith, count_done (holds a.rule) at.i a.held.len a.held.entries blank (omega arith) (omega arith) (omega arith))

@@ -1,15 +1,15 @@
 -- `put_digits` meets its contract, by induction over the number: the digits of its tenth are put, and the last digit behind them.
 -- Assumes nothing.
 use Rattle.std.proofs.Common.{arith, rules}
-use Rattle.printing.proofs.Answers.{digits-small, digits_more, length-small, length_more, put_byte}
+use Rattle.printing.proofs.Answers.{digits_small, digits_more, length_small, length_more, put_byte}
 use Rattle.printing.proofs.+put_digits.Goals as goal
 
 pub bounds-out-at : goal.bounds-out-at
-bounds-out-at t c = omega (arith, length-small c.args.n c.if-n-lt10.true)
+bounds-out-at t c = omega (arith, length_small c.args.n c.if-n-lt10.true)
 
 pub returns-then-n-lt10 : goal.returns-then-n-lt10
 returns-then-n-lt10 t c =
-    record { ends = omega (arith, length-small c.args.n c.if-n-lt10.true); holds = rw (digits-small c.args.n c.if-n-lt10.true) }
+    record { ends = omega (arith, length_small c.args.n c.if-n-lt10.true); holds = rw (digits_small c.args.n c.if-n-lt10.true) }
 
 -- a number of ten or more has one digit more than its tenth
 pub put_digits-k-requires : goal.put_digits-k-requires

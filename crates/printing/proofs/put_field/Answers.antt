@@ -7,7 +7,7 @@ use lib.ListN.{length}
 use borrow.Author.Tests.{leb-true}
 use borrow.Author.Rules.{rules}
 use Rattle.printing.specs.Answers.{field_room}
-use Rattle.printing.proofs.Answers.{twenty, put_is, put_byte, put-none}
+use Rattle.printing.proofs.Answers.{twenty, put_is, put_byte, put_none}
 use Rattle.printing.proofs.put_field.Goals as goal
 use Rattle.printing.proofs.put_field.Goals.{Then-has_room}
 
@@ -31,4 +31,4 @@ returns-then-has_room c =
     put_is field_room (room (goal.at.returns-then-has_room c).Then-has_room) (put_byte c.put_digits-k.ensures _)
 
 pub returns : goal.returns
-returns c = put-none _ _ _ _ (sym c.has_room.ensures ∙ c.if-has_room.false)
+returns c = put_none _ _ _ _ (sym c.has_room.ensures ∙ c.if-has_room.false)

@@ -6,7 +6,7 @@ use borrow.Author.Rules.{rules}
 use lib.ListN.{length, drop}
 use Rattle.lists.specs.Search.{some}
 use Rattle.rules.specs.Machine.{bad_outcome}
-use Rattle.round.proofs.Steps.{bad-here, good-here, good-end}
+use Rattle.round.proofs.Steps.{bad_here, good_here, good_end}
 use Rattle.round.proofs.has_bad.Goals as goal
 
 pub loop-i-init : goal.loop-i-init
@@ -14,11 +14,11 @@ loop-i-init c = (refl, search rules)
 
 pub returns-then-outcomes-i-gt-ABANDONED : goal.returns-then-outcomes-i-gt-ABANDONED
 returns-then-outcomes-i-gt-ABANDONED c =
-    sym (c.loop-i.invariant.0 ∙ bad-here _ _ c.loop-i-test.true c.if-outcomes-i-gt-ABANDONED.true)
+    sym (c.loop-i.invariant.0 ∙ bad_here _ _ c.loop-i-test.true c.if-outcomes-i-gt-ABANDONED.true)
 
 pub loop-i-preserved : goal.loop-i-preserved
 loop-i-preserved c =
-    (c.loop-i.invariant.0 ∙ good-here _ _ c.loop-i-test.true c.if-outcomes-i-gt-ABANDONED.false, search rules)
+    (c.loop-i.invariant.0 ∙ good_here _ _ c.loop-i-test.true c.if-outcomes-i-gt-ABANDONED.false, search rules)
 
 pub returns : goal.returns
-returns c = sym (c.loop-i.invariant.0 ∙ good-end _ _ c.loop-i-test.false)
+returns c = sym (c.loop-i.invariant.0 ∙ good_end _ _ c.loop-i-test.false)

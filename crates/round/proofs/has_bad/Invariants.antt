@@ -6,7 +6,7 @@ use borrow.Author.Rules.{rules}
 use lib.ListN.{length, drop}
 use Rattle.lists.specs.Search.{some}
 use Rattle.rules.specs.Machine.{bad_outcome}
-use Rattle.round.proofs.Steps.{bad-here, good-here, good-end}
+use Rattle.round.proofs.Steps.{bad_here, good_here, good_end}
 use Rattle.round.proofs.has_bad.Given as goal
 
 abbrev pub invariant-loop-i : goal.invariant-loop-i

@@ -7,7 +7,7 @@ use lib.ListN.{length}
 use Rattle.round.specs.Rounds.{round_of}
 use Rattle.rules.specs.Calls as call
 use Rattle.lists.proofs.Arrays.{full}
-use Rattle.round.proofs.Refusing.{same-lengths, shut-is, refused-slices, refused-shut, not-refused}
+use Rattle.round.proofs.Refusing.{same_lengths, shut_is, refused_slices, refused_shut, not_refused}
 use Rattle.places.proofs.Refusing.{unkept}
 use Rattle.round.proofs.round.Goals as goal
 use Rattle.round.proofs.round.Goals.{Start}
@@ -26,7 +26,7 @@ unfolding round_of
 returns-then-are_bad c =
     let a = c.args in
     let k = sym c.is_kept.ensures ∙ c.if-not-is_kept.false in
-    rw (refused-slices a.table k a.at a.outcomes.now a.ids.now (sym c.are_bad.ensures ∙ c.if-are_bad.true), round_of, c.not_rounded-then-are_bad.ensures)
+    rw (refused_slices a.table k a.at a.outcomes.now a.ids.now (sym c.are_bad.ensures ∙ c.if-are_bad.true), round_of, c.not_rounded-then-are_bad.ensures)
 
 pub returns-then-is_shut : goal.returns-then-is_shut
 unfolding round_of
@@ -34,12 +34,12 @@ returns-then-is_shut c =
     let a = c.args in
     let k = sym c.is_kept.ensures ∙ c.if-not-is_kept.false in
     let good = sym c.are_bad.ensures ∙ c.if-are_bad.false in
-    let shut = sym (shut-is a.table k (long (goal.at.returns-then-is_shut c).Start) a.at) ∙ sym c.is_shut.ensures ∙ c.if-is_shut.true in
-    rw (refused-shut a.table k a.at a.outcomes.now a.ids.now good shut, round_of, c.not_rounded-then-is_shut.ensures)
+    let shut = sym (shut_is a.table k (long (goal.at.returns-then-is_shut c).Start) a.at) ∙ sym c.is_shut.ensures ∙ c.if-is_shut.true in
+    rw (refused_shut a.table k a.at a.outcomes.now a.ids.now good shut, round_of, c.not_rounded-then-is_shut.ensures)
 
 pub serve-end-requires : goal.serve-end-requires
 serve-end-requires c =
-    same-lengths _ _ (sym c.are_bad.ensures ∙ c.if-are_bad.false)
+    same_lengths _ _ (sym c.are_bad.ensures ∙ c.if-are_bad.false)
 
 pub returns : goal.returns
 unfolding round_of
@@ -47,5 +47,5 @@ returns c =
     let a = c.args in
     let k = sym c.is_kept.ensures ∙ c.if-not-is_kept.false in
     let good = sym c.are_bad.ensures ∙ c.if-are_bad.false in
-    let free = sym (shut-is a.table k (long (goal.at.returns c).Start) a.at) ∙ sym c.is_shut.ensures ∙ c.if-is_shut.false in
-    rw (not-refused a.table k a.at a.outcomes.now a.ids.now good free, round_of, ← c.serve-end.ensures, c.is_silent.ensures)
+    let free = sym (shut_is a.table k (long (goal.at.returns c).Start) a.at) ∙ sym c.is_shut.ensures ∙ c.if-is_shut.false in
+    rw (not_refused a.table k a.at a.outcomes.now a.ids.now good free, round_of, ← c.serve-end.ensures, c.is_silent.ensures)

@@ -6,7 +6,7 @@ use native.Mathlib.Omega.{arith}
 use borrow.Author.Rules.{rules}
 use lib.ListN.{length, drop, length-set}
 use Rattle.round.specs.Rounds.{served}
-use Rattle.round.proofs.Steps.{turn-made, turn-missed, turns-end}
+use Rattle.round.proofs.Steps.{turn_made, turn_missed, turns_end}
 use Rattle.round.proofs.serve.Given as goal
 
 abbrev pub invariant-loop-n : goal.invariant-loop-n

@@ -3,14 +3,14 @@
 use Rattle.std.proofs.Common.{arith, rules, eq-eqb, ne_eqb}
 use Rattle.places.specs.Calls.{cancels_in}
 use Rattle.places.specs.Tests.{struck}
-use Rattle.places.proofs.Finding.{open-there}
+use Rattle.places.proofs.Finding.{open_there}
 use Rattle.lists.proofs.Arrays.{full}
 use Rattle.table.proofs.cancels.Goals as goal
 
 pub returns-then-table-eq0 : goal.returns-then-table-eq0
 unfolding cancels_in
 returns-then-table-eq0 c =
-    rw (eq-eqb _ _ c.if-table-eq0.true, cancels_in) (open-there c.args.table (c.well_formed.0.1.1.0.1.0.1) (omega arith) (struck c.args.choice) c.find_open.ensures)
+    rw (eq-eqb _ _ c.if-table-eq0.true, cancels_in) (open_there c.args.table (c.well_formed.0.1.1.0.1.0.1) (omega arith) (struck c.args.choice) c.find_open.ensures)
 
 pub returns : goal.returns
 unfolding cancels_in

@@ -8,9 +8,9 @@ use Rattle.places.specs.Views.{view}
 use Rattle.rules.specs.Machine.{first_of}
 use Rattle.rules.specs.States.{is_report, is_priming}
 use Rattle.rules.specs.Calls as call
-use Rattle.places.proofs.Refusing.{kept-counts, past-kept, unkept}
-use Rattle.places.proofs.Finding.{open-there}
-use Rattle.rules.proofs.Clauses.{clear-objects, first_holds, first-passed, first-none}
+use Rattle.places.proofs.Refusing.{kept_counts, past_kept, unkept}
+use Rattle.places.proofs.Finding.{open_there}
+use Rattle.rules.proofs.Clauses.{clear_objects, first_holds, first_passed, first_none}
 use Rattle.lists.proofs.Arrays.{full}
 use Rattle.table.proofs.clear.Goals as goal
 use Rattle.table.proofs.clear.Goals.{Start}
@@ -25,7 +25,7 @@ returns-then-not-is_kept c =
 
 pub find_open-requires : goal.find_open-requires
 find_open-requires c =
-    let b = kept-counts c.args.table (sym c.is_kept.ensures ∙ c.if-not-is_kept.false) in
+    let b = kept_counts c.args.table (sym c.is_kept.ensures ∙ c.if-not-is_kept.false) in
     omega arith
 
 pub returns-then-find_open-lt80 : goal.returns-then-find_open-lt80
@@ -33,18 +33,18 @@ unfolding clear_in
 returns-then-find_open-lt80 c =
     let t = c.args.table in
     let k = sym c.is_kept.ensures ∙ c.if-not-is_kept.false in
-    let b = kept-counts t k in
-    let there = sym (open-there t (long (goal.at.returns-then-find_open-lt80 c).Start) (omega arith) is_priming c.find_open.ensures) ∙ lt-ltb _ _ c.if-find_open-lt80.true in
-    rw (past-kept t k call.clear ∙ ap first_of (clear-objects (view t)) ∙ first_holds PrimingOpen [] there, clear_in) c.not_woken-then-find_open-lt80.ensures
+    let b = kept_counts t k in
+    let there = sym (open_there t (long (goal.at.returns-then-find_open-lt80 c).Start) (omega arith) is_priming c.find_open.ensures) ∙ lt-ltb _ _ c.if-find_open-lt80.true in
+    rw (past_kept t k call.clear ∙ ap first_of (clear_objects (view t)) ∙ first_holds PrimingOpen [] there, clear_in) c.not_woken-then-find_open-lt80.ensures
 
 pub find_open-cancels-requires : goal.find_open-cancels-requires
 find_open-cancels-requires c =
-    let b = kept-counts c.args.table (sym c.is_kept.ensures ∙ c.if-not-is_kept.false) in
+    let b = kept_counts c.args.table (sym c.is_kept.ensures ∙ c.if-not-is_kept.false) in
     omega arith
 
 pub emptied-requires : goal.emptied-requires
 emptied-requires c =
-    let b = kept-counts c.args.table (sym c.is_kept.ensures ∙ c.if-not-is_kept.false) in
+    let b = kept_counts c.args.table (sym c.is_kept.ensures ∙ c.if-not-is_kept.false) in
     omega arith
 
 pub returns : goal.returns
@@ -52,6 +52,6 @@ unfolding clear_in
 returns c =
     let t = c.args.table in
     let k = sym c.is_kept.ensures ∙ c.if-not-is_kept.false in
-    let b = kept-counts t k in
-    let none = sym (open-there t (long (goal.at.returns c).Start) (omega arith) is_priming c.find_open.ensures) ∙ le-ltb _ _ c.if-find_open-lt80.false in
-    rw (past-kept t k call.clear ∙ ap first_of (clear-objects (view t)) ∙ first-passed PrimingOpen [] none ∙ first-none, ← open-there t (long (goal.at.returns c).Start) (omega arith) is_report c.find_open-cancels.ensures, ← c.emptied.ensures, ← c.reason_after.ensures, ← c.with_cancel.ensures, clear_in)
+    let b = kept_counts t k in
+    let none = sym (open_there t (long (goal.at.returns c).Start) (omega arith) is_priming c.find_open.ensures) ∙ le-ltb _ _ c.if-find_open-lt80.false in
+    rw (past_kept t k call.clear ∙ ap first_of (clear_objects (view t)) ∙ first_passed PrimingOpen [] none ∙ first_none, ← open_there t (long (goal.at.returns c).Start) (omega arith) is_report c.find_open-cancels.ensures, ← c.emptied.ensures, ← c.reason_after.ensures, ← c.with_cancel.ensures, clear_in)

@@ -8,9 +8,9 @@ use Rattle.places.specs.Views.{view}
 use Rattle.rules.specs.Machine.{first_of}
 use Rattle.rules.specs.States.{has_id}
 use Rattle.rules.specs.Calls as call
-use Rattle.places.proofs.Refusing.{kept-counts, past-kept, unkept}
-use Rattle.places.proofs.Finding.{none_open, one-open}
-use Rattle.rules.proofs.Clauses.{complete-objects, first_holds, first-passed, first-none}
+use Rattle.places.proofs.Refusing.{kept_counts, past_kept, unkept}
+use Rattle.places.proofs.Finding.{none_open, one_open}
+use Rattle.rules.proofs.Clauses.{complete_objects, first_holds, first_passed, first_none}
 use Rattle.lists.proofs.Arrays.{full}
 use Rattle.table.proofs.complete.Goals as goal
 use Rattle.table.proofs.complete.Goals.{Start}
@@ -29,11 +29,11 @@ unfolding complete_in
 returns-then-outcome-gt-ABANDONED c =
     let a = c.args in
     let k = sym c.is_kept.ensures ∙ c.if-not-is_kept.false in
-    rw (past-kept a.table k (call.complete a.id a.outcome) ∙ ap first_of (complete-objects (view a.table) a.id a.outcome) ∙ first_holds BadArgument _ (lt-ltb _ _ c.if-outcome-gt-ABANDONED.true), complete_in) c.not_completed-then-outcome-gt-ABANDONED.ensures
+    rw (past_kept a.table k (call.complete a.id a.outcome) ∙ ap first_of (complete_objects (view a.table) a.id a.outcome) ∙ first_holds BadArgument _ (lt-ltb _ _ c.if-outcome-gt-ABANDONED.true), complete_in) c.not_completed-then-outcome-gt-ABANDONED.ensures
 
 pub find_open-at-requires : goal.find_open-at-requires
 find_open-at-requires c =
-    let b = kept-counts c.args.table (sym c.is_kept.ensures ∙ c.if-not-is_kept.false) in
+    let b = kept_counts c.args.table (sym c.is_kept.ensures ∙ c.if-not-is_kept.false) in
     omega arith
 
 pub returns-then-at-ge80 : goal.returns-then-at-ge80
@@ -42,13 +42,13 @@ returns-then-at-ge80 c =
     let a = c.args in
     let t = a.table in
     let k = sym c.is_kept.ensures ∙ c.if-not-is_kept.false in
-    let b = kept-counts t k in
+    let b = kept_counts t k in
     let none = none_open t (long (goal.at.returns-then-at-ge80 c).Start) (omega arith) (has_id a.id) c.find_open-at.ensures c.if-at-ge80.true in
-    rw (past-kept t k (call.complete a.id a.outcome) ∙ ap first_of (complete-objects (view t) a.id a.outcome) ∙ first-passed BadArgument _ (le-ltb _ _ c.if-outcome-gt-ABANDONED.false) ∙ first_holds NotOpen [] none, complete_in) c.not_completed-then-at-ge80.ensures
+    rw (past_kept t k (call.complete a.id a.outcome) ∙ ap first_of (complete_objects (view t) a.id a.outcome) ∙ first_passed BadArgument _ (le-ltb _ _ c.if-outcome-gt-ABANDONED.false) ∙ first_holds NotOpen [] none, complete_in) c.not_completed-then-at-ge80.ensures
 
 pub ended-requires : goal.ended-requires
 ended-requires c =
-    let b = kept-counts c.args.table (sym c.is_kept.ensures ∙ c.if-not-is_kept.false) in
+    let b = kept_counts c.args.table (sym c.is_kept.ensures ∙ c.if-not-is_kept.false) in
     (b, (omega (arith, c.find_open-at.ensures), omega arith))
 
 pub returns : goal.returns
@@ -57,6 +57,6 @@ returns c =
     let a = c.args in
     let t = a.table in
     let k = sym c.is_kept.ensures ∙ c.if-not-is_kept.false in
-    let b = kept-counts t k in
-    let there = one-open t (long (goal.at.returns c).Start) (omega arith) (has_id a.id) c.find_open-at.ensures c.if-at-ge80.false in
-    rw (past-kept t k (call.complete a.id a.outcome) ∙ ap first_of (complete-objects (view t) a.id a.outcome) ∙ first-passed BadArgument _ (le-ltb _ _ c.if-outcome-gt-ABANDONED.false) ∙ first-passed NotOpen [] there ∙ first-none, ← c.find_open-at.ensures, complete_in) c.ended.ensures
+    let b = kept_counts t k in
+    let there = one_open t (long (goal.at.returns c).Start) (omega arith) (has_id a.id) c.find_open-at.ensures c.if-at-ge80.false in
+    rw (past_kept t k (call.complete a.id a.outcome) ∙ ap first_of (complete_objects (view t) a.id a.outcome) ∙ first_passed BadArgument _ (le-ltb _ _ c.if-outcome-gt-ABANDONED.false) ∙ first_passed NotOpen [] there ∙ first_none, ← c.find_open-at.ensures, complete_in) c.ended.ensures

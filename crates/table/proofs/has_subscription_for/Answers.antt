@@ -5,8 +5,8 @@ use borrow.Author.Tests.{not-true, not-false}
 use Rattle.places.specs.Calls.{has_at}
 use Rattle.places.specs.Views.{view}
 use Rattle.rules.specs.Calls as call
-use Rattle.places.proofs.Refusing.{kept-counts, no-refusal, unkept}
-use Rattle.rules.proofs.Clauses.{has-objects}
+use Rattle.places.proofs.Refusing.{kept_counts, no_refusal, unkept}
+use Rattle.rules.proofs.Clauses.{has_objects}
 use Rattle.table.proofs.has_subscription_for.Goals as goal
 
 pub returns-then-not-is_kept : goal.returns-then-not-is_kept
@@ -17,7 +17,7 @@ returns-then-not-is_kept c =
 
 pub find_stored-requires : goal.find_stored-requires
 find_stored-requires c =
-    let b = kept-counts c.args.table (sym c.is_kept.ensures ∙ c.if-not-is_kept.false) in
+    let b = kept_counts c.args.table (sym c.is_kept.ensures ∙ c.if-not-is_kept.false) in
     omega arith
 
 pub returns : goal.returns
@@ -25,4 +25,4 @@ unfolding has_at
 returns c =
     let a = c.args in
     let k = sym c.is_kept.ensures ∙ c.if-not-is_kept.false in
-    rw (no-refusal a.table k (call.has_subscription a.fabric a.peer) (has-objects (view a.table) a.fabric a.peer), ← c.find_stored.ensures, has_at)
+    rw (no_refusal a.table k (call.has_subscription a.fabric a.peer) (has_objects (view a.table) a.fabric a.peer), ← c.find_stored.ensures, has_at)

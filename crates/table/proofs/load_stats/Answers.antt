@@ -5,8 +5,8 @@ use borrow.Author.Tests.{not-true, not-false}
 use Rattle.places.specs.Calls.{load_of}
 use Rattle.places.specs.Views.{view}
 use Rattle.rules.specs.Calls as call
-use Rattle.places.proofs.Refusing.{kept-counts, no-refusal, unkept}
-use Rattle.rules.proofs.Clauses.{statistics-objects}
+use Rattle.places.proofs.Refusing.{kept_counts, no_refusal, unkept}
+use Rattle.rules.proofs.Clauses.{statistics_objects}
 use Rattle.table.proofs.load_stats.Goals as goal
 
 pub returns-then-not-is_kept : goal.returns-then-not-is_kept
@@ -17,12 +17,12 @@ returns-then-not-is_kept c =
 
 pub overflow_add-result : goal.overflow_add-result
 overflow_add-result c =
-    let b = kept-counts c.args.table (sym c.is_kept.ensures ∙ c.if-not-is_kept.false) in
+    let b = kept_counts c.args.table (sym c.is_kept.ensures ∙ c.if-not-is_kept.false) in
     search rules
 
 pub of_fabric-requires : goal.of_fabric-requires
 of_fabric-requires c =
-    let b = kept-counts c.args.table (sym c.is_kept.ensures ∙ c.if-not-is_kept.false) in
+    let b = kept_counts c.args.table (sym c.is_kept.ensures ∙ c.if-not-is_kept.false) in
     search rules
 
 pub returns : goal.returns
@@ -30,4 +30,4 @@ unfolding load_of
 returns c =
     let a = c.args in
     let k = sym c.is_kept.ensures ∙ c.if-not-is_kept.false in
-    rw (no-refusal a.table k (call.statistics a.fabric) (statistics-objects (view a.table) a.fabric), ← c.of_fabric.ensures, ← c.less_one.ensures, load_of)
+    rw (no_refusal a.table k (call.statistics a.fabric) (statistics_objects (view a.table) a.fabric), ← c.of_fabric.ensures, ← c.less_one.ensures, load_of)

@@ -5,8 +5,8 @@ use borrow.Author.Tests.{not-true, not-false}
 use Rattle.places.specs.Calls.{alive_at}
 use Rattle.places.specs.Views.{view}
 use Rattle.rules.specs.Calls as call
-use Rattle.places.proofs.Refusing.{kept-counts, no-refusal, unkept}
-use Rattle.rules.proofs.Clauses.{alive-objects}
+use Rattle.places.proofs.Refusing.{kept_counts, no_refusal, unkept}
+use Rattle.rules.proofs.Clauses.{alive_objects}
 use Rattle.table.proofs.next_keep_alive_at.Goals as goal
 
 pub returns-then-not-is_kept : goal.returns-then-not-is_kept
@@ -19,11 +19,11 @@ unfolding alive_at
 returns-then-table-eq0 c =
     let t = c.args.table in
     let k = sym c.is_kept.ensures ∙ c.if-not-is_kept.false in
-    rw (no-refusal t k call.next_keep_alive (alive-objects (view t)), eq-eqb _ _ c.if-table-eq0.true, alive_at)
+    rw (no_refusal t k call.next_keep_alive (alive_objects (view t)), eq-eqb _ _ c.if-table-eq0.true, alive_at)
 
 pub least_stored-requires : goal.least_stored-requires
 least_stored-requires c =
-    let b = kept-counts c.args.table (sym c.is_kept.ensures ∙ c.if-not-is_kept.false) in
+    let b = kept_counts c.args.table (sym c.is_kept.ensures ∙ c.if-not-is_kept.false) in
     omega arith
 
 pub returns : goal.returns
@@ -31,4 +31,4 @@ unfolding alive_at
 returns c =
     let t = c.args.table in
     let k = sym c.is_kept.ensures ∙ c.if-not-is_kept.false in
-    rw (no-refusal t k call.next_keep_alive (alive-objects (view t)), ne_eqb _ _ c.if-table-eq0.false, ← c.least_stored.ensures, alive_at)
+    rw (no_refusal t k call.next_keep_alive (alive_objects (view t)), ne_eqb _ _ c.if-table-eq0.false, ← c.least_stored.ensures, alive_at)

@@ -7,9 +7,9 @@ use Rattle.places.specs.Views.{view}
 use Rattle.answers.specs.Numbers.{mark_value}
 use Rattle.changes.specs.Logs.{newest_of}
 use Rattle.rules.specs.Calls as call
-use Rattle.places.proofs.Refusing.{kept-counts, kept-log, no-refusal, unkept}
-use Rattle.rules.proofs.Clauses.{instant-objects}
-use Rattle.changes.proofs.Answering.{newest-answer}
+use Rattle.places.proofs.Refusing.{kept_counts, kept_log, no_refusal, unkept}
+use Rattle.rules.proofs.Clauses.{instant_objects}
+use Rattle.changes.proofs.Answering.{newest_answer}
 use Rattle.table.proofs.next_report_at.Goals as goal
 
 pub returns-then-not-is_kept : goal.returns-then-not-is_kept
@@ -20,7 +20,7 @@ returns-then-not-is_kept c =
 
 pub least_stored-requires : goal.least_stored-requires
 least_stored-requires c =
-    let b = kept-counts c.args.table (sym c.is_kept.ensures ∙ c.if-not-is_kept.false) in
+    let b = kept_counts c.args.table (sym c.is_kept.ensures ∙ c.if-not-is_kept.false) in
     omega arith
 
 pub returns : goal.returns
@@ -28,5 +28,5 @@ unfolding next_at
 returns c =
     let a = c.args in
     let k = sym c.is_kept.ensures ∙ c.if-not-is_kept.false in
-    let n : c.value-newest.result ≡ newest_of a.table.log = c.value-newest.ensures ∙ ap mark_value (c.newest.ensures ∙ newest-answer a.table.log (kept-log a.table k)) in
-    rw (no-refusal a.table k (call.next_instant a.events a.kind) (instant-objects (view a.table) a.events a.kind), ← n, ← c.least_stored.ensures, next_at)
+    let n : c.value-newest.result ≡ newest_of a.table.log = c.value-newest.ensures ∙ ap mark_value (c.newest.ensures ∙ newest_answer a.table.log (kept_log a.table k)) in
+    rw (no_refusal a.table k (call.next_instant a.events a.kind) (instant_objects (view a.table) a.events a.kind), ← n, ← c.least_stored.ensures, next_at)

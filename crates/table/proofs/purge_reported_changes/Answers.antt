@@ -5,8 +5,8 @@ use borrow.Author.Tests.{not-true, not-false}
 use Rattle.places.specs.Calls.{purge_in}
 use Rattle.places.specs.Views.{view}
 use Rattle.rules.specs.Calls as call
-use Rattle.places.proofs.Refusing.{kept-counts, no-refusal, unkept}
-use Rattle.rules.proofs.Clauses.{purge-objects}
+use Rattle.places.proofs.Refusing.{kept_counts, no_refusal, unkept}
+use Rattle.rules.proofs.Clauses.{purge_objects}
 use Rattle.table.proofs.purge_reported_changes.Goals as goal
 
 pub returns-then-not-is_kept : goal.returns-then-not-is_kept
@@ -16,11 +16,11 @@ returns-then-not-is_kept c =
 
 pub purged-requires : goal.purged-requires
 purged-requires c =
-    let b = kept-counts c.args.table (sym c.is_kept.ensures ∙ c.if-not-is_kept.false) in
+    let b = kept_counts c.args.table (sym c.is_kept.ensures ∙ c.if-not-is_kept.false) in
     omega arith
 
 pub returns : goal.returns
 unfolding purge_in
 returns c =
     let t = c.args.table in
-    rw (no-refusal t (sym c.is_kept.ensures ∙ c.if-not-is_kept.false) call.purge (purge-objects (view t)), ← c.purged.ensures, purge_in)
+    rw (no_refusal t (sym c.is_kept.ensures ∙ c.if-not-is_kept.false) call.purge (purge_objects (view t)), ← c.purged.ensures, purge_in)

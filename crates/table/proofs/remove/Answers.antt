@@ -8,9 +8,9 @@ use Rattle.places.specs.Views.{view}
 use Rattle.rules.specs.Machine.{first_of}
 use Rattle.choices.specs.Choices.{chosen}
 use Rattle.rules.specs.Calls as call
-use Rattle.places.proofs.Refusing.{kept-counts, past-kept, unkept}
+use Rattle.places.proofs.Refusing.{kept_counts, past_kept, unkept}
 use Rattle.places.proofs.Finding.{stored_there}
-use Rattle.rules.proofs.Clauses.{remove-objects, first_holds, first-passed, first-none}
+use Rattle.rules.proofs.Clauses.{remove_objects, first_holds, first_passed, first_none}
 use Rattle.lists.proofs.Arrays.{full}
 use Rattle.table.proofs.remove.Goals as goal
 use Rattle.table.proofs.remove.Goals.{Start}
@@ -29,21 +29,21 @@ unfolding remove_in
 returns-then-is_bad_reason c =
     let a = c.args in
     let k = sym c.is_kept.ensures ∙ c.if-not-is_kept.false in
-    rw (past-kept a.table k (call.remove a.choice a.reason) ∙ ap first_of (remove-objects (view a.table) a.choice a.reason) ∙ first_holds BadArgument [] (sym c.is_bad_reason.ensures ∙ c.if-is_bad_reason.true), remove_in) c.not_woken-then-is_bad_reason.ensures
+    rw (past_kept a.table k (call.remove a.choice a.reason) ∙ ap first_of (remove_objects (view a.table) a.choice a.reason) ∙ first_holds BadArgument [] (sym c.is_bad_reason.ensures ∙ c.if-is_bad_reason.true), remove_in) c.not_woken-then-is_bad_reason.ensures
 
 pub cancels-cancels-requires : goal.cancels-cancels-requires
 cancels-cancels-requires c =
-    let b = kept-counts c.args.table (sym c.is_kept.ensures ∙ c.if-not-is_kept.false) in
+    let b = kept_counts c.args.table (sym c.is_kept.ensures ∙ c.if-not-is_kept.false) in
     omega arith
 
 pub find_stored-requires : goal.find_stored-requires
 find_stored-requires c =
-    let b = kept-counts c.args.table (sym c.is_kept.ensures ∙ c.if-not-is_kept.false) in
+    let b = kept_counts c.args.table (sym c.is_kept.ensures ∙ c.if-not-is_kept.false) in
     omega arith
 
 pub swept-requires : goal.swept-requires
 swept-requires c =
-    let b = kept-counts c.args.table (sym c.is_kept.ensures ∙ c.if-not-is_kept.false) in
+    let b = kept_counts c.args.table (sym c.is_kept.ensures ∙ c.if-not-is_kept.false) in
     omega arith
 
 pub returns : goal.returns
@@ -51,6 +51,6 @@ unfolding remove_in
 returns c =
     let a = c.args in
     let k = sym c.is_kept.ensures ∙ c.if-not-is_kept.false in
-    let b = kept-counts a.table k in
+    let b = kept_counts a.table k in
     let found = c.either-wakes.ensures ∙ ap (λ b. b || c.cancels-cancels.result) (stored_there a.table (long (goal.at.returns c).Start) (omega arith) (chosen a.choice) c.find_stored.ensures) in
-    rw (past-kept a.table k (call.remove a.choice a.reason) ∙ ap first_of (remove-objects (view a.table) a.choice a.reason) ∙ first-passed BadArgument [] (sym c.is_bad_reason.ensures ∙ c.if-is_bad_reason.false) ∙ first-none, ← c.cancels-cancels.ensures, ← found, ← c.swept.ensures, ← c.reason_after.ensures, ← c.with_cancel.ensures, remove_in)
+    rw (past_kept a.table k (call.remove a.choice a.reason) ∙ ap first_of (remove_objects (view a.table) a.choice a.reason) ∙ first_passed BadArgument [] (sym c.is_bad_reason.ensures ∙ c.if-is_bad_reason.false) ∙ first_none, ← c.cancels-cancels.ensures, ← found, ← c.swept.ensures, ← c.reason_after.ensures, ← c.with_cancel.ensures, remove_in)

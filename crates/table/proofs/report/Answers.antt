@@ -8,9 +8,9 @@ use Rattle.places.specs.Views.{view}
 use Rattle.rules.specs.Machine.{first_of}
 use Rattle.rules.specs.States.{is_report}
 use Rattle.rules.specs.Calls as call
-use Rattle.places.proofs.Refusing.{kept-counts, kept-log, past-kept, unkept}
-use Rattle.places.proofs.Finding.{open-there}
-use Rattle.rules.proofs.Clauses.{report-objects, report-open-is, first_holds, first-passed, first-none}
+use Rattle.places.proofs.Refusing.{kept_counts, kept_log, past_kept, unkept}
+use Rattle.places.proofs.Finding.{open_there}
+use Rattle.rules.proofs.Clauses.{report_objects, report_open_is, first_holds, first_passed, first_none}
 use Rattle.lists.proofs.Arrays.{full}
 use Rattle.table.proofs.report.Goals as goal
 use Rattle.table.proofs.report.Goals.{Start}
@@ -25,7 +25,7 @@ returns-then-not-is_kept c =
 
 pub find_open-requires : goal.find_open-requires
 find_open-requires c =
-    let b = kept-counts c.args.table (sym c.is_kept.ensures ∙ c.if-not-is_kept.false) in
+    let b = kept_counts c.args.table (sym c.is_kept.ensures ∙ c.if-not-is_kept.false) in
     omega arith
 
 pub returns-then-find_open-lt80 : goal.returns-then-find_open-lt80
@@ -33,20 +33,20 @@ unfolding report_in
 returns-then-find_open-lt80 c =
     let t = c.args.table in
     let k = sym c.is_kept.ensures ∙ c.if-not-is_kept.false in
-    let b = kept-counts t k in
-    let there = report-open-is (view t) ∙ sym (open-there t (long (goal.at.returns-then-find_open-lt80 c).Start) (omega arith) is_report c.find_open.ensures) ∙ lt-ltb _ _ c.if-find_open-lt80.true in
-    rw (past-kept t k (call.report c.args.at) ∙ ap first_of (report-objects (view t) c.args.at) ∙ first_holds ReportOpen [] there, report_in) c.not_reported-then-find_open-lt80.ensures
+    let b = kept_counts t k in
+    let there = report_open_is (view t) ∙ sym (open_there t (long (goal.at.returns-then-find_open-lt80 c).Start) (omega arith) is_report c.find_open.ensures) ∙ lt-ltb _ _ c.if-find_open-lt80.true in
+    rw (past_kept t k (call.report c.args.at) ∙ ap first_of (report_objects (view t) c.args.at) ∙ first_holds ReportOpen [] there, report_in) c.not_reported-then-find_open-lt80.ensures
 
 pub hand_out-requires : goal.hand_out-requires
 hand_out-requires c =
     let k = sym c.is_kept.ensures ∙ c.if-not-is_kept.false in
-    (kept-counts c.args.table k, kept-log c.args.table k)
+    (kept_counts c.args.table k, kept_log c.args.table k)
 
 pub returns : goal.returns
 unfolding report_in
 returns c =
     let t = c.args.table in
     let k = sym c.is_kept.ensures ∙ c.if-not-is_kept.false in
-    let b = kept-counts t k in
-    let none = report-open-is (view t) ∙ sym (open-there t (long (goal.at.returns c).Start) (omega arith) is_report c.find_open.ensures) ∙ le-ltb _ _ c.if-find_open-lt80.false in
-    rw (past-kept t k (call.report c.args.at) ∙ ap first_of (report-objects (view t) c.args.at) ∙ first-passed ReportOpen [] none ∙ first-none, report_in) c.hand_out.ensures
+    let b = kept_counts t k in
+    let none = report_open_is (view t) ∙ sym (open_there t (long (goal.at.returns c).Start) (omega arith) is_report c.find_open.ensures) ∙ le-ltb _ _ c.if-find_open-lt80.false in
+    rw (past_kept t k (call.report c.args.at) ∙ ap first_of (report_objects (view t) c.args.at) ∙ first_passed ReportOpen [] none ∙ first_none, report_in) c.hand_out.ensures

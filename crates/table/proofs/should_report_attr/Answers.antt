@@ -9,10 +9,10 @@ use Rattle.places.specs.Views.{view}
 use Rattle.rules.specs.Machine.{first_of}
 use Rattle.rules.specs.States.{has_id}
 use Rattle.rules.specs.Calls as call
-use Rattle.places.proofs.Refusing.{kept-counts, kept-log, past-kept, unkept}
-use Rattle.changes.proofs.Answering.{path-answer}
-use Rattle.places.proofs.Finding.{none_open, one-open}
-use Rattle.rules.proofs.Clauses.{attribute-objects, first_holds, first-passed, first-none}
+use Rattle.places.proofs.Refusing.{kept_counts, kept_log, past_kept, unkept}
+use Rattle.changes.proofs.Answering.{path_answer}
+use Rattle.places.proofs.Finding.{none_open, one_open}
+use Rattle.rules.proofs.Clauses.{attribute_objects, first_holds, first_passed, first_none}
 use Rattle.lists.proofs.Arrays.{full}
 use Rattle.table.proofs.should_report_attr.Goals as goal
 use Rattle.table.proofs.should_report_attr.Goals.{Start}
@@ -31,7 +31,7 @@ returns-then-not-is_kept c =
 
 pub find_open-at-requires : goal.find_open-at-requires
 find_open-at-requires c =
-    let b = kept-counts (table_of (goal.at.find_open-at-requires c).Start) (sym c.is_kept.ensures ∙ c.if-not-is_kept.false) in
+    let b = kept_counts (table_of (goal.at.find_open-at-requires c).Start) (sym c.is_kept.ensures ∙ c.if-not-is_kept.false) in
     omega arith
 
 pub returns-then-at-ge80 : goal.returns-then-at-ge80
@@ -40,9 +40,9 @@ returns-then-at-ge80 c =
     let a = c.args in
     let t = table_of (goal.at.returns-then-at-ge80 c).Start in
     let k = sym c.is_kept.ensures ∙ c.if-not-is_kept.false in
-    let b = kept-counts t k in
+    let b = kept_counts t k in
     let none = none_open t (long (goal.at.returns-then-at-ge80 c).Start) (omega arith) (has_id a.id) c.find_open-at.ensures c.if-at-ge80.true in
-    rw (past-kept t k (call.attribute a.id a.endpoint a.cluster a.attr) ∙ ap first_of (attribute-objects (view t) a.id a.endpoint a.cluster a.attr) ∙ first_holds NotOpen [] none, attribute_at)
+    rw (past_kept t k (call.attribute a.id a.endpoint a.cluster a.attr) ∙ ap first_of (attribute_objects (view t) a.id a.endpoint a.cluster a.attr) ∙ first_holds NotOpen [] none, attribute_at)
 
 pub returns-then-is_never : goal.returns-then-is_never
 unfolding attribute_at open_at
@@ -50,9 +50,9 @@ returns-then-is_never c =
     let a = c.args in
     let t = table_of (goal.at.returns-then-is_never c).Start in
     let k = sym c.is_kept.ensures ∙ c.if-not-is_kept.false in
-    let b = kept-counts t k in
-    let there = one-open t (long (goal.at.returns-then-is_never c).Start) (omega arith) (has_id a.id) c.find_open-at.ensures c.if-at-ge80.false in
-    rw (past-kept t k (call.attribute a.id a.endpoint a.cluster a.attr) ∙ ap first_of (attribute-objects (view t) a.id a.endpoint a.cluster a.attr) ∙ first-passed NotOpen [] there ∙ first-none, ← c.find_open-at.ensures, ← c.one_at-x.ensures, sym c.is_never.ensures ∙ c.if-is_never.true, attribute_at)
+    let b = kept_counts t k in
+    let there = one_open t (long (goal.at.returns-then-is_never c).Start) (omega arith) (has_id a.id) c.find_open-at.ensures c.if-at-ge80.false in
+    rw (past_kept t k (call.attribute a.id a.endpoint a.cluster a.attr) ∙ ap first_of (attribute_objects (view t) a.id a.endpoint a.cluster a.attr) ∙ first_passed NotOpen [] there ∙ first_none, ← c.find_open-at.ensures, ← c.one_at-x.ensures, sym c.is_never.ensures ∙ c.if-is_never.true, attribute_at)
 
 pub returns : goal.returns
 unfolding attribute_at open_at
@@ -60,7 +60,7 @@ returns c =
     let a = c.args in
     let t = table_of (goal.at.returns c).Start in
     let k = sym c.is_kept.ensures ∙ c.if-not-is_kept.false in
-    let b = kept-counts t k in
-    let there = one-open t (long (goal.at.returns c).Start) (omega arith) (has_id a.id) c.find_open-at.ensures c.if-at-ge80.false in
-    rw (past-kept t k (call.attribute a.id a.endpoint a.cluster a.attr) ∙ ap first_of (attribute-objects (view t) a.id a.endpoint a.cluster a.attr) ∙ first-passed NotOpen [] there ∙ first-none, ← c.find_open-at.ensures, ← c.one_at-x.ensures, sym c.is_never.ensures ∙ c.if-is_never.false, attribute_at)
-    (c.contains_since.ensures ∙ path-answer t.log (kept-log t k) a.endpoint a.cluster a.attr _)
+    let b = kept_counts t k in
+    let there = one_open t (long (goal.at.returns c).Start) (omega arith) (has_id a.id) c.find_open-at.ensures c.if-at-ge80.false in
+    rw (past_kept t k (call.attribute a.id a.endpoint a.cluster a.attr) ∙ ap first_of (attribute_objects (view t) a.id a.endpoint a.cluster a.attr) ∙ first_passed NotOpen [] there ∙ first_none, ← c.find_open-at.ensures, ← c.one_at-x.ensures, sym c.is_never.ensures ∙ c.if-is_never.false, attribute_at)
+    (c.contains_since.ensures ∙ path_answer t.log (kept_log t k) a.endpoint a.cluster a.attr _)

@@ -10,9 +10,9 @@ use Rattle.places.specs.Views.{view}
 use Rattle.rules.specs.Machine.{first_of}
 use Rattle.rules.specs.States.{has_id}
 use Rattle.rules.specs.Calls as call
-use Rattle.places.proofs.Refusing.{kept-counts, past-kept, unkept}
-use Rattle.places.proofs.Finding.{none_open, one-open}
-use Rattle.rules.proofs.Clauses.{send-objects, first_holds, first-passed, first-none}
+use Rattle.places.proofs.Refusing.{kept_counts, past_kept, unkept}
+use Rattle.places.proofs.Finding.{none_open, one_open}
+use Rattle.rules.proofs.Clauses.{send_objects, first_holds, first_passed, first_none}
 use Rattle.lists.proofs.Arrays.{full}
 use Rattle.table.proofs.should_send_if_empty.Goals as goal
 use Rattle.table.proofs.should_send_if_empty.Goals.{Start}
@@ -31,7 +31,7 @@ returns-then-not-is_kept c =
 
 pub find_open-at-requires : goal.find_open-at-requires
 find_open-at-requires c =
-    let b = kept-counts (table_of (goal.at.find_open-at-requires c).Start) (sym c.is_kept.ensures ∙ c.if-not-is_kept.false) in
+    let b = kept_counts (table_of (goal.at.find_open-at-requires c).Start) (sym c.is_kept.ensures ∙ c.if-not-is_kept.false) in
     omega arith
 
 pub returns-then-at-ge80 : goal.returns-then-at-ge80
@@ -40,9 +40,9 @@ returns-then-at-ge80 c =
     let a = c.args in
     let t = table_of (goal.at.returns-then-at-ge80 c).Start in
     let k = sym c.is_kept.ensures ∙ c.if-not-is_kept.false in
-    let b = kept-counts t k in
+    let b = kept_counts t k in
     let none = none_open t (long (goal.at.returns-then-at-ge80 c).Start) (omega arith) (has_id a.id) c.find_open-at.ensures c.if-at-ge80.true in
-    rw (past-kept t k (call.send_if_empty a.id a.kind) ∙ ap first_of (send-objects (view t) a.id a.kind) ∙ first_holds NotOpen [] none, send_at)
+    rw (past_kept t k (call.send_if_empty a.id a.kind) ∙ ap first_of (send_objects (view t) a.id a.kind) ∙ first_holds NotOpen [] none, send_at)
 
 pub returns : goal.returns
 unfolding send_at open_at
@@ -50,7 +50,7 @@ returns c =
     let a = c.args in
     let t = table_of (goal.at.returns c).Start in
     let k = sym c.is_kept.ensures ∙ c.if-not-is_kept.false in
-    let b = kept-counts t k in
-    let there = one-open t (long (goal.at.returns c).Start) (omega arith) (has_id a.id) c.find_open-at.ensures c.if-at-ge80.false in
-    rw (past-kept t k (call.send_if_empty a.id a.kind) ∙ ap first_of (send-objects (view t) a.id a.kind) ∙ first-passed NotOpen [] there ∙ first-none, ← c.find_open-at.ensures, ← c.one_at-x.ensures, send_at)
+    let b = kept_counts t k in
+    let there = one_open t (long (goal.at.returns c).Start) (omega arith) (has_id a.id) c.find_open-at.ensures c.if-at-ge80.false in
+    rw (past_kept t k (call.send_if_empty a.id a.kind) ∙ ap first_of (send_objects (view t) a.id a.kind) ∙ first_passed NotOpen [] there ∙ first_none, ← c.find_open-at.ensures, ← c.one_at-x.ensures, send_at)
     (ap told.Is c.is_report_due.ensures)

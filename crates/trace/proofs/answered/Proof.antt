@@ -6,7 +6,7 @@ use native.Mathlib.Omega.{arith}
 use lib.ListN.{length}
 use borrow.Author.Rules.{rules}
 use Rattle.printing.specs.Answers.{answer_room}
-use Rattle.trace.proofs.Fitting.{wrote-fits, wrote-length, used-fits, used-some}
+use Rattle.trace.proofs.Fitting.{wrote_fits, wrote_length, used_fits, used_some}
 use Rattle.trace.proofs.answered.Statement.{statement}
 use Rattle.trace.proofs.answered.Tie as tie
 
@@ -20,19 +20,19 @@ decreases-loop held₀ s out₀ present₀ at₀ held out present at = length s 
 wrote : (c : tie.After-run invariant-loop decreases-loop) → c.run.result.wrote ≤ 65536
 wrote c =
     let d = c.before.before.before.before.before in
-    omega (arith, d.loop.invariant.2, wrote-fits _ _ d.before.before.before.before.args.s.now _ _ _ _ _ c.run.ensures)
+    omega (arith, d.loop.invariant.2, wrote_fits _ _ d.before.before.before.before.args.s.now _ _ _ _ _ c.run.ensures)
 
 used : (c : tie.After-run invariant-loop decreases-loop) →
     let d = c.before.before.before.before.before in d.loop.at + c.run.result.used ≤ length d.before.before.before.before.args.s.now
 used c =
     let d = c.before.before.before.before.before in
-    used-fits _ _ d.before.before.before.before.args.s.now _ _ _ _ _ c.run.ensures d.loop.invariant.0
+    used_fits _ _ d.before.before.before.before.args.s.now _ _ _ _ _ c.run.ensures d.loop.invariant.0
 
 some : (c : tie.After-run invariant-loop decreases-loop) → 0 < c.run.result.used
 some c =
     let d = c.before.before.before.before.before in
     let room : answer_room ≤ length d.loop.out = omega (arith, d.loop.invariant.2) in
-    used-some _ _ d.before.before.before.before.args.s.now _ _ _ _ _ c.run.ensures c.before.before.before.before.loop-test.true room
+    used_some _ _ d.before.before.before.before.args.s.now _ _ _ _ _ c.run.ensures c.before.before.before.before.loop-test.true room
 
 large-buffer-requires : tie.Need-large-buffer-requires invariant-loop decreases-loop
 large-buffer-requires c κs = search rules
@@ -60,7 +60,7 @@ array-share-prefix-out c = omega (arith, wrote c.before.before.before.before)
 
 slice-aggregate-write-all : tie.Need-slice-aggregate-write-all invariant-loop decreases-loop
 slice-aggregate-write-all c =
-    let d = c.before.before.before.before.before in sym (wrote-length _ _ d.before.before.before.before.before.before.before.before.before.args.s.now _ _ _ _ _ d.run.ensures)
+    let d = c.before.before.before.before.before in sym (wrote_length _ _ d.before.before.before.before.before.before.before.before.before.args.s.now _ _ _ _ _ d.run.ensures)
 
 write-all-requires : tie.Need-write-all-requires invariant-loop decreases-loop
 write-all-requires c κs = search rules

@@ -3,7 +3,7 @@
 use mathlib.Core.Path.{sym}
 use native.Mathlib.Omega.{arith}
 use borrow.Author.Rules.{rules}
-use Rattle.trace.proofs.Fitting.{last_fits, last-length}
+use Rattle.trace.proofs.Fitting.{last_fits, last_length}
 use Rattle.trace.proofs.finished.Statement.{statement}
 use Rattle.trace.proofs.finished.Tie as tie
 
@@ -17,7 +17,7 @@ array-share-prefix-out : tie.Need-array-share-prefix-out
 array-share-prefix-out c = omega (arith, last_fits _ _ _ _ _ c.before.finish.ensures (omega arith))
 
 slice-aggregate-write-all : tie.Need-slice-aggregate-write-all
-slice-aggregate-write-all c = sym (last-length _ _ _ _ _ c.before.before.finish.ensures (omega arith))
+slice-aggregate-write-all c = sym (last_length _ _ _ _ _ c.before.before.finish.ensures (omega arith))
 
 write-all-requires : tie.Need-write-all-requires
 write-all-requires c κs = search rules

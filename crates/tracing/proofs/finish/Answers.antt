@@ -3,19 +3,19 @@
 use mathlib.Core.Path.{sym, ◌∙◌}
 use borrow.Author.Rules.{rules}
 use borrow.Author.Tests.{not-true, not-false}
-use Rattle.tracing.proofs.Scanning.{finish-none, finish-answered}
+use Rattle.tracing.proofs.Scanning.{finish_none, finish_answered}
 use Rattle.tracing.proofs.finish.Goals as goal
 
 pub returns-then-not-ends : goal.returns-then-not-ends
 returns-then-not-ends c =
-    finish-none _ _ _ _ c.close-t.ensures (sym c.ends.ensures ∙ c.if-not-ends.true)
+    finish_none _ _ _ _ c.close-t.ensures (sym c.ends.ensures ∙ c.if-not-ends.true)
 
 pub shape_of-out : goal.shape_of-out
 shape_of-out c = c.put_answer.auto.out
 
 pub returns : goal.returns
 returns c =
-    finish-answered _ _ _ _ c.close-t.ensures (sym c.ends.ensures ∙ c.if-not-ends.false) _ _ _ _
+    finish_answered _ _ _ _ c.close-t.ensures (sym c.ends.ensures ∙ c.if-not-ends.false) _ _ _ _
     c.line_in.ensures
     c.answer-a.ensures
     c.put_answer.ensures

@@ -11,7 +11,7 @@ use borrow.Author.Rules.{rules}
 use borrow.Author.Tests.{not-true, not-false}
 use Rattle.printing.specs.Answers.{answer_room}
 use Rattle.tracing.specs.Runs.{run_from}
-use Rattle.tracing.proofs.Scanning.{standing, stopped-at, run-full, run-done, turn-within, turn-moves, turn-none, turn-answered}
+use Rattle.tracing.proofs.Scanning.{standing, stopped_at, run_full, run_done, turn_within, turn_moves, turn_none, turn_answered}
 use Rattle.tracing.proofs.run.Goals as goal
 use Rattle.tracing.proofs.run.Goals.{After-scan-k}
 
@@ -22,7 +22,7 @@ room c = sym c.has_room.ensures ∙ c.if-not-has_room.false
 
 within : (c : After-scan-k) →
     c.loop-used.used + c.scan-k.result.used ≤ length c.args.s.now
-within c = turn-within _ _ _ c.args.s.now _ _ c.scan-k.ensures c.loop-used.invariant.1.0
+within c = turn_within _ _ _ c.args.s.now _ _ c.scan-k.ensures c.loop-used.invariant.1.0
 
 pub loop-used-init : goal.loop-used-init
 loop-used-init c = (refl, (search rules, refl, refl))
@@ -36,7 +36,7 @@ shape_of-out-then-not-has_room c = c.loop-used.invariant.1.2
 pub returns-then-not-has_room : goal.returns-then-not-has_room
 returns-then-not-has_room c =
     let k = c.loop-used in
-    stopped-at c.stopped.ensures ∙ sym (k.invariant.0 ∙ run-full _ _ (sym c.has_room.ensures ∙ c.if-not-has_room.true))
+    stopped_at c.stopped.ensures ∙ sym (k.invariant.0 ∙ run_full _ _ (sym c.has_room.ensures ∙ c.if-not-has_room.true))
 
 pub overflow_add-used : goal.overflow_add-used
 overflow_add-used c = omega (arith, within (goal.at.overflow_add-used c).After-scan-k)
@@ -52,18 +52,18 @@ shape_of-out-then-not-ends c =
 pub returns-then-not-ends : goal.returns-then-not-ends
 returns-then-not-ends c =
     let k = c.loop-used in
-    stopped-at c.stopped-then-not-ends.ensures
-    ∙ sym (k.invariant.0 ∙ turn-none _ _ _ _ _ _ _ _ _ c.scan-k.ensures (room (goal.at.returns-then-not-ends c).After-scan-k) k.invariant.1.0 (sym c.ends.ensures ∙ c.if-not-ends.true))
+    stopped_at c.stopped-then-not-ends.ensures
+    ∙ sym (k.invariant.0 ∙ turn_none _ _ _ _ _ _ _ _ _ c.scan-k.ensures (room (goal.at.returns-then-not-ends c).After-scan-k) k.invariant.1.0 (sym c.ends.ensures ∙ c.if-not-ends.true))
 
 pub loop-used-smaller : goal.loop-used-smaller
 loop-used-smaller c =
-    omega (arith, turn-moves _ _ _ c.args.s.now _ _ c.scan-k.ensures c.loop-used-test.true, within (goal.at.loop-used-smaller c).After-scan-k)
+    omega (arith, turn_moves _ _ _ c.args.s.now _ _ c.scan-k.ensures c.loop-used-test.true, within (goal.at.loop-used-smaller c).After-scan-k)
 
 pub loop-used-preserved : goal.loop-used-preserved
 loop-used-preserved c =
     let k = c.loop-used in (
       k.invariant.0
-          ∙ turn-answered _ _ _ _ _ _ _ _ _ c.scan-k.ensures (room (goal.at.loop-used-preserved c).After-scan-k) (sym c.ends.ensures ∙ c.if-not-ends.false) _ _ _ _
+          ∙ turn_answered _ _ _ _ _ _ _ _ _ c.scan-k.ensures (room (goal.at.loop-used-preserved c).After-scan-k) (sym c.ends.ensures ∙ c.if-not-ends.false) _ _ _ _
           c.line_in.ensures
           c.answer-a.ensures
           c.put_answer-wrote.ensures,
@@ -78,4 +78,4 @@ shape_of-out c = c.loop-used.invariant.1.2
 
 pub returns : goal.returns
 returns c =
-    stopped-at c.stopped-2.ensures ∙ sym (c.loop-used.invariant.0 ∙ ap (run_from _) (drop_of_length-le _ c.loop-used-test.false) ∙ run-done _)
+    stopped_at c.stopped-2.ensures ∙ sym (c.loop-used.invariant.0 ∙ ap (run_from _) (drop_of_length-le _ c.loop-used-test.false) ∙ run_done _)

@@ -11,7 +11,7 @@ use borrow.Author.Rules.{rules}
 use borrow.Author.Tests.{not-true, not-false}
 use Rattle.printing.specs.Answers.{answer_room}
 use Rattle.tracing.specs.Runs.{run_from}
-use Rattle.tracing.proofs.Scanning.{standing, stopped-at, run-full, run-done, turn-within, turn-moves, turn-none, turn-answered}
+use Rattle.tracing.proofs.Scanning.{standing, stopped_at, run_full, run_done, turn_within, turn_moves, turn_none, turn_answered}
 use Rattle.tracing.proofs.run.Given as goal
 
 abbrev pub invariant-loop-used : goal.invariant-loop-used

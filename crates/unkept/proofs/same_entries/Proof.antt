@@ -8,7 +8,7 @@ use borrow.Author.Tests.{not-false}
 use Rattle.lists.proofs.Bools.{clash}
 use Rattle.lists.proofs.Arrays.{full}
 use Rattle.entries.specs.Paths.{blank}
-use Rattle.unkept.proofs.Alike.{Alike, alike-none, alike_next, alike_all}
+use Rattle.unkept.proofs.Alike.{Alike, alike_none, alike_next, alike_all}
 use Rattle.unkept.proofs.same_entries.Statement.{statement}
 use Rattle.unkept.proofs.same_entries.Tie as tie
 
@@ -20,7 +20,7 @@ decreases-loop a b i₀ i = 16 - i
 
 loop-holds : tie.Need-loop-init invariant-loop decreases-loop
 loop-holds c =
-    alike-none blank (full _ c.args.t1.entries c.well-formed.0.1.1.0.1.0.1)
+    alike_none blank (full _ c.args.t1.entries c.well-formed.0.1.1.0.1.0.1)
     (full _ c.args.t2.entries c.well-formed.1.0.1.1.0.1.0.1)
 
 mul-x : tie.Need-overflow-mul-x invariant-loop decreases-loop

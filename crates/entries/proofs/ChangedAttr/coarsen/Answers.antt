@@ -10,13 +10,13 @@ use Rattle.entries.specs.Paths.{candidate, wild_endpoint}
 use Rattle.entries.proofs.ChangedAttr.coarsen.Goals as goal
 
 -- at each level an entry with a wild endpoint has no candidate
-wild-endpoint : (level : Level) (x : ChangedAttr) → x.endpoint ≡ wild_endpoint → Nothing ≡ candidate level x
+wild_endpoint_lem : (level : Level) (x : ChangedAttr) → x.endpoint ≡ wild_endpoint → Nothing ≡ candidate level x
 unfolding candidate
-wild-endpoint Cluster x e = rw (eq-eqb _ _ e, candidate)
-wild-endpoint Endpoint x e = rw (eq-eqb _ _ e, candidate)
+wild_endpoint_lem Cluster x e = rw (eq-eqb _ _ e, candidate)
+wild_endpoint_lem Endpoint x e = rw (eq-eqb _ _ e, candidate)
 
 pub returns-then-self-wild : goal.returns-then-self-wild
-returns-then-self-wild c = wild-endpoint c.args.level _ c.if-self-wild.true
+returns-then-self-wild c = wild_endpoint_lem c.args.level _ c.if-self-wild.true
 
 pub returns-then-self-wild-2 : goal.returns-then-self-wild-2
 unfolding candidate

@@ -2,7 +2,7 @@
 -- Assumes nothing.
 use Rattle.std.proofs.Common.{◌≡◌, ◌-◌, ◌≤◌, length, drop, ap, ◌∙◌, arith, rules}
 use Rattle.fields.specs.Fields.{field_of}
-use Rattle.fields.proofs.Rows.{part-begins}
+use Rattle.fields.proofs.Rows.{part_begins}
 use Rattle.lists.proofs.Parts.{rest}
 use Rattle.replay.proofs.rounds.read_outcomes.Statement.{statement}
 use Rattle.replay.proofs.rounds.read_outcomes.Tie as tie
@@ -78,7 +78,7 @@ slice-write-into-2 c = search rules
 add_at : tie.Need-overflow-add-at invariant-loop decreases-loop
 add_at c =
     let d = c.before.before.before.before in
-    omega (arith, part-begins _ _ _ _ _ _ d.before.before.before.loop.invariant.0 (read d) c.before.before.value.given.1)
+    omega (arith, part_begins _ _ _ _ _ _ d.before.before.before.loop.invariant.0 (read d) c.before.before.value.given.1)
 
 add-count : tie.Need-overflow-add-count invariant-loop decreases-loop
 add-count c = search rules
@@ -89,7 +89,7 @@ loop-less c = search rules
 loop-again : tie.Need-loop-preserved invariant-loop decreases-loop
 loop-again c =
     let d = c.before.before.before.before in
-    (part-begins _ _ _ _ _ _ d.before.before.before.loop.invariant.0 (read d) c.before.before.value.given.1, search rules)
+    (part_begins _ _ _ _ _ _ d.before.before.before.loop.invariant.0 (read d) c.before.before.value.given.1, search rules)
 
 same-length-3 : tie.Need-same-length-3 invariant-loop decreases-loop
 same-length-3 c = search rules

@@ -2,7 +2,7 @@
 -- Assumes nothing.
 use Rattle.std.proofs.Common.{◌≡◌, length, sym, ◌∙◌, arith, rules, le-ltb, lt-ltb}
 use Rattle.rules.specs.States.{has_id}
-use Rattle.places.proofs.Finding.{stored_there, open-there}
+use Rattle.places.proofs.Finding.{stored_there, open_there}
 use Rattle.lists.proofs.Arrays.{full}
 use Rattle.table.proofs.admission.is_live.Goals as goal
 use Rattle.table.proofs.admission.is_live.Goals.{Start}
@@ -19,4 +19,4 @@ pub returns : goal.returns
 returns c =
     let t = c.args.table in
     rw (sym (stored_there t (long (goal.at.returns c).Start) (omega arith) (has_id c.args.id) c.find_stored.ensures) ∙ le-ltb _ _ c.if-find_stored-table.false)
-    (open-there t (long (goal.at.returns c).Start) (omega arith) (has_id c.args.id) c.find_open.ensures)
+    (open_there t (long (goal.at.returns c).Start) (omega arith) (has_id c.args.id) c.find_open.ensures)

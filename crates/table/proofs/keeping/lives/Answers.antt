@@ -3,29 +3,29 @@
 use Rattle.std.proofs.Common.{◌≡◌, ◌+◌, ◌-◌, ◌≤◌, ◌&&◌, leb, length, get_or, refl, ap, arith, length-take-le, rules}
 use Rattle.places.specs.Views.{stored_of, opens_of, place_of}
 use Rattle.subscription.specs.Life.{blank}
-use Rattle.table.proofs.Steps.{place-below, Passing, pass-begin, pass_step, pass-end, live-length, live_at}
+use Rattle.table.proofs.Steps.{place_below, Passing, pass_begin, pass_step, pass_end, live_length, live_at}
 use Rattle.lists.specs.Search.{one}
 use Rattle.lists.proofs.Arrays.{full}
-use Rattle.lists.proofs.Counts.{one-most}
+use Rattle.lists.proofs.Counts.{one_most}
 use Rattle.table.proofs.keeping.lives.Goals as goal
 
 pub loop-i-init : goal.loop-i-init
 loop-i-init c =
     let t = c.args.table in
     let long = c.well_formed.0.1.1.0.1.0.1 in
-    (pass-begin (stored_of t) (opens_of t) _ refl, search rules)
+    (pass_begin (stored_of t) (opens_of t) _ refl, search rules)
 
 pub offset_bounds-table-at : goal.offset_bounds-table-at
 offset_bounds-table-at c =
     let t = c.args.table in
-    let b = place-below c.loop-i.i t.stored t.opens (omega arith) (omega arith) in
+    let b = place_below c.loop-i.i t.stored t.opens (omega arith) (omega arith) in
     let e : c.place_of-at.result ≡ place_of c.loop-i.i t.stored (80 - (t.stored + t.opens)) = c.place_of-at.ensures in
     search rules
 
 pub bounds-table-at : goal.bounds-table-at
 bounds-table-at c =
     let t = c.args.table in
-    let b = place-below c.loop-i.i t.stored t.opens (omega arith) (omega arith) in
+    let b = place_below c.loop-i.i t.stored t.opens (omega arith) (omega arith) in
     let e : c.place_of-at.result ≡ place_of c.loop-i.i t.stored (80 - (t.stored + t.opens)) = c.place_of-at.ensures in
     search rules
 
@@ -34,7 +34,7 @@ overflow_add-reports c =
     let t = c.args.table in
     let x = get_or t.places c.place_of-at.result blank in
     let e : c.one_if_both-reports.result ≡ one (leb t.stored c.loop-i.i && x.reporting) = c.one_if_both-reports.ensures in
-    let more = one-most (leb t.stored c.loop-i.i && x.reporting) in
+    let more = one_most (leb t.stored c.loop-i.i && x.reporting) in
     search rules
 
 pub loop-i-preserved : goal.loop-i-preserved
@@ -42,14 +42,14 @@ loop-i-preserved c =
     let t = c.args.table in
     let k = c.loop-i in
     let x = get_or t.places c.place_of-at.result blank in
-    let size = live-length t.places t.stored t.opens (omega arith) (omega arith) in
+    let size = live_length t.places t.stored t.opens (omega arith) (omega arith) in
     let at = live_at t.places t.stored t.opens (omega arith) (omega arith) k.i (omega arith) in
     let e : c.one_if_both-reports.result ≡ one (leb t.stored k.i && x.reporting) = c.one_if_both-reports.ensures in
-    let more = one-most (leb t.stored k.i && x.reporting) in
+    let more = one_most (leb t.stored k.i && x.reporting) in
     (pass_step (stored_of t) (opens_of t) x k.invariant.0 (omega arith) (omega arith) (rw c.place_of-at.ensures at) c.either-orphan.ensures (rw (length-take-le t.stored t.places (omega arith)) (ap (λ n. k.reports + n) e)), search rules)
 
 pub returns : goal.returns
 returns c =
     let t = c.args.table in
     let k = c.loop-i in
-    pass-end (stored_of t) (opens_of t) k.invariant.0 (omega (arith, live-length t.places t.stored t.opens (omega arith) (omega arith)))
+    pass_end (stored_of t) (opens_of t) k.invariant.0 (omega (arith, live_length t.places t.stored t.opens (omega arith) (omega arith)))

@@ -3,10 +3,10 @@
 use Rattle.std.proofs.Common.{◌≡◌, ◌+◌, ◌-◌, ◌≤◌, ◌&&◌, leb, length, get_or, refl, ap, arith, length-take-le, rules}
 use Rattle.places.specs.Views.{stored_of, opens_of, place_of}
 use Rattle.subscription.specs.Life.{blank}
-use Rattle.table.proofs.Steps.{place-below, Passing, pass-begin, pass_step, pass-end, live-length, live_at}
+use Rattle.table.proofs.Steps.{place_below, Passing, pass_begin, pass_step, pass_end, live_length, live_at}
 use Rattle.lists.specs.Search.{one}
 use Rattle.lists.proofs.Arrays.{full}
-use Rattle.lists.proofs.Counts.{one-most}
+use Rattle.lists.proofs.Counts.{one_most}
 use Rattle.table.proofs.keeping.lives.Given as goal
 
 abbrev pub invariant-loop-i : goal.invariant-loop-i

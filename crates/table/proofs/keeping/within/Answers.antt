@@ -3,7 +3,7 @@
 use Rattle.std.proofs.Common.{◌≡◌, ℕ, ◌+◌, ◌<◌, ◌≤◌, sym, arith, le-leb}
 use borrow.Author.Tests.{lt-leb}
 use lib.Arith.{lt_of_le-ne}
-use Rattle.table.proofs.Steps.{sum-within}
+use Rattle.table.proofs.Steps.{sum_within}
 use Rattle.table.proofs.keeping.within.Goals as goal
 
 pos : {n : ℕ} → (n ≡ 0 → ⊥) → 1 ≤ n
@@ -24,4 +24,4 @@ returns-then-most-stored c =
 pub returns : goal.returns
 returns c =
     let a = c.args in
-    rw (le-leb 1 a.capacity (pos c.if-capacity-eq0.false), le-leb a.capacity 80 (omega arith)) (sum-within a.stored a.opens a.capacity (omega arith))
+    rw (le-leb 1 a.capacity (pos c.if-capacity-eq0.false), le-leb a.capacity 80 (omega arith)) (sum_within a.stored a.opens a.capacity (omega arith))

@@ -2,7 +2,7 @@
 -- Assumes nothing.
 use Rattle.std.proofs.Common.{◌≡◌, ◌-◌, ◌≤◌, ◌++◌, length, drop, replicate, refl, arith, rules}
 use Rattle.subscription.specs.Life.{blank}
-use Rattle.table.proofs.Sweeping.{SameBut, same-on, blank-more, empty-end}
+use Rattle.table.proofs.Sweeping.{SameBut, same_on, blank_more, empty_end}
 use Rattle.lists.proofs.Arrays.{full}
 use Rattle.table.proofs.moves.emptied.Goals as goal
 
@@ -15,9 +15,9 @@ loop-i-init c =
 pub loop-i-preserved : goal.loop-i-preserved
 loop-i-preserved c =
     let k = c.loop-i in
-    (rw k.invariant.0 (blank-more c.args.table.places k.i (omega arith)), (same-on c.args.table k.table _ k.invariant.1.0, search rules))
+    (rw k.invariant.0 (blank_more c.args.table.places k.i (omega arith)), (same_on c.args.table k.table _ k.invariant.1.0, search rules))
 
 pub returns : goal.returns
 returns c =
     let k = c.loop-i in
-    empty-end c.args.table k.table k.i k.invariant.1.0 k.invariant.0 (omega arith)
+    empty_end c.args.table k.table k.i k.invariant.1.0 k.invariant.0 (omega arith)

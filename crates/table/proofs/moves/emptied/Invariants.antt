@@ -2,7 +2,7 @@
 -- Assumes nothing.
 use Rattle.std.proofs.Common.{◌≡◌, ◌-◌, ◌≤◌, ◌++◌, length, drop, replicate, refl, arith, rules}
 use Rattle.subscription.specs.Life.{blank}
-use Rattle.table.proofs.Sweeping.{SameBut, same-on, blank-more, empty-end}
+use Rattle.table.proofs.Sweeping.{SameBut, same_on, blank_more, empty_end}
 use Rattle.lists.proofs.Arrays.{full}
 use Rattle.table.proofs.moves.emptied.Given as goal
 

@@ -3,7 +3,7 @@
 use Rattle.std.proofs.Common.{◌≡◌, ◌-◌, ◌≤◌, length, sym, refl, ◌∙◌, arith, length-set, rules}
 use Rattle.places.specs.Moves.{swept_from}
 use Rattle.choices.specs.Choices.{chosen}
-use Rattle.table.proofs.Sweeping.{SameBut, same-on, sweep-start, sweep-out, sweep-kept, sweep-end}
+use Rattle.table.proofs.Sweeping.{SameBut, same_on, sweep_start, sweep_out, sweep_kept, sweep_end}
 use Rattle.lists.proofs.Arrays.{full}
 use Rattle.table.proofs.moves.swept.Goals as goal
 
@@ -11,19 +11,19 @@ pub loop-i-init : goal.loop-i-init
 loop-i-init c =
     let t = c.args.table in
     let long = c.well_formed.0.1.1.0.1.0.1 in
-    (sweep-start (chosen c.args.choice) t, (refl, search rules))
+    (sweep_start (chosen c.args.choice) t, (refl, search rules))
 
 pub loop-i-preserved-then-takes : goal.loop-i-preserved-then-takes
 loop-i-preserved-then-takes c =
     let k = c.loop-i in
-    (k.invariant.0 ∙ sweep-out (chosen c.args.choice) k.i k.n k.table.places (omega arith) (sym c.takes.ensures ∙ c.if-takes.true), (same-on c.args.table k.table _ k.invariant.1.0, (omega arith, omega arith, simp length-set k.invariant.1.1.2)))
+    (k.invariant.0 ∙ sweep_out (chosen c.args.choice) k.i k.n k.table.places (omega arith) (sym c.takes.ensures ∙ c.if-takes.true), (same_on c.args.table k.table _ k.invariant.1.0, (omega arith, omega arith, simp length-set k.invariant.1.1.2)))
 
 pub loop-i-preserved : goal.loop-i-preserved
 loop-i-preserved c =
     let k = c.loop-i in
-    (k.invariant.0 ∙ sweep-kept (chosen c.args.choice) k.i k.n k.table.places (omega arith) (sym c.takes.ensures ∙ c.if-takes.false), (k.invariant.1.0, search rules))
+    (k.invariant.0 ∙ sweep_kept (chosen c.args.choice) k.i k.n k.table.places (omega arith) (sym c.takes.ensures ∙ c.if-takes.false), (k.invariant.1.0, search rules))
 
 pub returns : goal.returns
 returns c =
     let k = c.loop-i in
-    sweep-end (chosen c.args.choice) c.args.table k.table k.i k.n k.invariant.1.0 k.invariant.0 (omega arith)
+    sweep_end (chosen c.args.choice) c.args.table k.table k.i k.n k.invariant.1.0 k.invariant.0 (omega arith)

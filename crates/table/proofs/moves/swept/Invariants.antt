@@ -3,7 +3,7 @@
 use Rattle.std.proofs.Common.{◌≡◌, ◌-◌, ◌≤◌, length, sym, refl, ◌∙◌, arith, length-set, rules}
 use Rattle.places.specs.Moves.{swept_from}
 use Rattle.choices.specs.Choices.{chosen}
-use Rattle.table.proofs.Sweeping.{SameBut, same-on, sweep-start, sweep-out, sweep-kept, sweep-end}
+use Rattle.table.proofs.Sweeping.{SameBut, same_on, sweep_start, sweep_out, sweep_kept, sweep_end}
 use Rattle.lists.proofs.Arrays.{full}
 use Rattle.table.proofs.moves.swept.Given as goal
 

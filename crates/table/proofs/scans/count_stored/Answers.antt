@@ -6,7 +6,7 @@ use Rattle.table.specs.Scans.{passes}
 use Rattle.places.specs.Views.{stored_of}
 use Rattle.subscription.specs.Life.{blank}
 use Rattle.lists.specs.Search.{one, count}
-use Rattle.lists.proofs.Arrays.{full, count_next, count-done}
+use Rattle.lists.proofs.Arrays.{full, count_next, count_done}
 use Rattle.table.proofs.scans.count_stored.Goals as goal
 
 pub loop-i-init : goal.loop-i-init
@@ -27,4 +27,4 @@ loop-i-preserved c =
 pub returns : goal.returns
 returns c =
     let t = c.args.table in
-    omega (arith, count-done (passes c.args.test) c.loop-i.i t.stored t.places blank (omega arith) (omega arith) (omega arith))
+    omega (arith, count_done (passes c.args.test) c.loop-i.i t.stored t.places blank (omega arith) (omega arith) (omega arith))

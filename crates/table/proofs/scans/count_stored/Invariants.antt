@@ -6,7 +6,7 @@ use Rattle.table.specs.Scans.{passes}
 use Rattle.places.specs.Views.{stored_of}
 use Rattle.subscription.specs.Life.{blank}
 use Rattle.lists.specs.Search.{one, count}
-use Rattle.lists.proofs.Arrays.{full, count_next, count-done}
+use Rattle.lists.proofs.Arrays.{full, count_next, count_done}
 use Rattle.table.proofs.scans.count_stored.Given as goal
 
 abbrev pub invariant-loop-i : goal.invariant-loop-i

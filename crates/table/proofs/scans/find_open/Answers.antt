@@ -6,19 +6,19 @@ use Rattle.table.specs.Scans.{passes}
 use Rattle.places.specs.Views.{opens_of}
 use Rattle.subscription.specs.Life.{blank}
 use Rattle.lists.specs.Search.{first}
-use Rattle.lists.proofs.Arrays.{full, slice-rest, first-here, first_next, first_done}
+use Rattle.lists.proofs.Arrays.{full, slice_rest, first_here, first_next, first_done}
 use Rattle.table.proofs.scans.find_open.Goals as goal
 
 pub loop-i-init : goal.loop-i-init
 loop-i-init c =
     let t = c.args.table in
     let long = c.well_formed.0.1.1.0.1.0.1 in
-    (rw (slice-rest (80 - t.opens) 80 t.places long), search rules)
+    (rw (slice_rest (80 - t.opens) 80 t.places long), search rules)
 
 pub returns-then-passes : goal.returns-then-passes
 returns-then-passes c =
     let t = c.args.table in
-    omega (arith, first-here (passes c.args.test) c.loop-i.i 80 t.places blank (omega arith) (omega arith) (sym c.passes.ensures ∙ c.if-passes.true))
+    omega (arith, first_here (passes c.args.test) c.loop-i.i 80 t.places blank (omega arith) (omega arith) (sym c.passes.ensures ∙ c.if-passes.true))
 
 pub loop-i-preserved : goal.loop-i-preserved
 loop-i-preserved c =

@@ -6,7 +6,7 @@ use Rattle.table.specs.Scans.{passes}
 use Rattle.places.specs.Views.{opens_of}
 use Rattle.subscription.specs.Life.{blank}
 use Rattle.lists.specs.Search.{first}
-use Rattle.lists.proofs.Arrays.{full, slice-rest, first-here, first_next, first_done}
+use Rattle.lists.proofs.Arrays.{full, slice_rest, first_here, first_next, first_done}
 use Rattle.table.proofs.scans.find_open.Given as goal
 
 abbrev pub invariant-loop-i : goal.invariant-loop-i

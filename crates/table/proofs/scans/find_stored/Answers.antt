@@ -6,7 +6,7 @@ use Rattle.table.specs.Scans.{passes}
 use Rattle.places.specs.Views.{stored_of}
 use Rattle.subscription.specs.Life.{blank}
 use Rattle.lists.specs.Search.{first}
-use Rattle.lists.proofs.Arrays.{full, first-here, first_next, first_done}
+use Rattle.lists.proofs.Arrays.{full, first_here, first_next, first_done}
 use Rattle.table.proofs.scans.find_stored.Goals as goal
 
 pub loop-i-init : goal.loop-i-init
@@ -17,7 +17,7 @@ loop-i-init c =
 pub returns-then-passes : goal.returns-then-passes
 returns-then-passes c =
     let t = c.args.table in
-    omega (arith, first-here (passes c.args.test) c.loop-i.i t.stored t.places blank (omega arith) (omega arith) (sym c.passes.ensures ∙ c.if-passes.true))
+    omega (arith, first_here (passes c.args.test) c.loop-i.i t.stored t.places blank (omega arith) (omega arith) (sym c.passes.ensures ∙ c.if-passes.true))
 
 pub loop-i-preserved : goal.loop-i-preserved
 loop-i-preserved c =

@@ -6,7 +6,7 @@ use Rattle.table.specs.Scans.{passes}
 use Rattle.places.specs.Views.{stored_of}
 use Rattle.subscription.specs.Life.{blank}
 use Rattle.lists.specs.Search.{first}
-use Rattle.lists.proofs.Arrays.{full, first-here, first_next, first_done}
+use Rattle.lists.proofs.Arrays.{full, first_here, first_next, first_done}
 use Rattle.table.proofs.scans.find_stored.Given as goal
 
 abbrev pub invariant-loop-i : goal.invariant-loop-i

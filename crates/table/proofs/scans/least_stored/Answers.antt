@@ -6,22 +6,22 @@ use Rattle.table.specs.Scans.{measured}
 use Rattle.places.specs.Views.{stored_of}
 use Rattle.subscription.specs.Life.{blank}
 use Rattle.lists.specs.Search.{least_by}
-use Rattle.lists.proofs.Arrays.{full, least-next, least-done}
-use Rattle.lists.proofs.Numbers.{least-bound}
+use Rattle.lists.proofs.Arrays.{full, least_next, least_done}
+use Rattle.lists.proofs.Numbers.{least_bound}
 use Rattle.table.proofs.scans.least_stored.Goals as goal
 
 pub loop-i-init : goal.loop-i-init
 loop-i-init c =
     let t = c.args.table in
     let long = c.well_formed.0.1.1.0.1.0.1 in
-    (omega (arith, least-bound (measured c.args.measure) c.args.bound (stored_of t)), search rules)
+    (omega (arith, least_bound (measured c.args.measure) c.args.bound (stored_of t)), search rules)
 
 pub loop-i-preserved : goal.loop-i-preserved
 loop-i-preserved c =
     let t = c.args.table in
-    (omega (arith, least-next c.loop-i.i t.stored t.places blank (omega arith) (measured c.args.measure) c.args.bound (omega arith)), search rules)
+    (omega (arith, least_next c.loop-i.i t.stored t.places blank (omega arith) (measured c.args.measure) c.args.bound (omega arith)), search rules)
 
 pub returns : goal.returns
 returns c =
     let t = c.args.table in
-    omega (arith, least-done c.loop-i.i t.stored t.places blank (omega arith) (measured c.args.measure) c.args.bound (omega arith) (omega arith))
+    omega (arith, least_done c.loop-i.i t.stored t.places blank (omega arith) (measured c.args.measure) c.args.bound (omega arith) (omega arith))

@@ -6,8 +6,8 @@ use Rattle.table.specs.Scans.{measured}
 use Rattle.places.specs.Views.{stored_of}
 use Rattle.subscription.specs.Life.{blank}
 use Rattle.lists.specs.Search.{least_by}
-use Rattle.lists.proofs.Arrays.{full, least-next, least-done}
-use Rattle.lists.proofs.Numbers.{least-bound}
+use Rattle.lists.proofs.Arrays.{full, least_next, least_done}
+use Rattle.lists.proofs.Numbers.{least_bound}
 use Rattle.table.proofs.scans.least_stored.Given as goal
 
 abbrev pub invariant-loop-i : goal.invariant-loop-i
