@@ -10,7 +10,7 @@ use lib.Dec.{ltb}
 use lib.ListN.{length, set, replicate}
 use lib.Seq.{drop-append-add}
 use borrow.Author.Tests.{ltb-true, ltb-false}
-use Rattle.fields.specs.Bytes.{comma, zero_digit, CR, LF}
+use Rattle.fields.specs.Bytes.{comma, zero_digit}
 use Rattle.fields.specs.Rows.{bits8, bits64, places, numbers_from, numbers_of}
 use Rattle.fields.proofs.Said.{Says, says_digit, says_more, read_more, read_last}
 use Rattle.fields.proofs.Rows.{numbers_begin, numbers_more, numbers_last}

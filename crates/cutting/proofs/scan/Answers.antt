@@ -30,11 +30,10 @@ returns-then-ends c =
     sym (here (goal.at.returns-then-ends c).In-loop-used ∙ scan_ends _ _ _ _ _ _ _ c.step-t.ensures (sym c.ends.ensures ∙ c.if-ends.true))
 
 pub loop-used-preserved : goal.loop-used-preserved
-loop-used-preserved c =
-    (
-      here (goal.at.loop-used-preserved c).In-loop-used ∙ scan_goes _ _ _ _ _ _ _ c.step-t.ensures (sym c.ends.ensures ∙ c.if-ends.false),
-      (search rules, c.step-t.auto.held ∙ c.loop-used.invariant.1.1),
-    )
+loop-used-preserved c = (
+  here (goal.at.loop-used-preserved c).In-loop-used ∙ scan_goes _ _ _ _ _ _ _ c.step-t.ensures (sym c.ends.ensures ∙ c.if-ends.false),
+  (search rules, c.step-t.auto.held ∙ c.loop-used.invariant.1.1),
+)
 
 pub shape_of-held : goal.shape_of-held
 shape_of-held c = c.loop-used.invariant.1.1

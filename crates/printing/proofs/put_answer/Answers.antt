@@ -7,7 +7,6 @@ use Prim.Native.Nat.{◌+◌, ◌≤◌, ◌<◌}
 use native.Mathlib.Omega.{arith}
 use lib.ListN.{length}
 use borrow.Author.Tests.{leb-true}
-use borrow.Author.Rules.{rules}
 use Rattle.printing.specs.Inner.{Put}
 use Rattle.printing.specs.Answers.{digits_of, answer_room}
 use Rattle.fields.specs.Bytes.{comma, CR, LF}

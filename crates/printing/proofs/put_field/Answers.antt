@@ -5,7 +5,6 @@ use Prim.Native.Nat.{◌+◌, ◌≤◌}
 use native.Mathlib.Omega.{arith}
 use lib.ListN.{length}
 use borrow.Author.Tests.{leb-true}
-use borrow.Author.Rules.{rules}
 use Rattle.printing.specs.Answers.{field_room}
 use Rattle.printing.proofs.Answers.{twenty, put_is, put_byte, put_none}
 use Rattle.printing.proofs.put_field.Goals as goal
