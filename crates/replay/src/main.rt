@@ -17,9 +17,16 @@ mod times;
 mod words;
 
 use cutting::{Found, Reading, close, scan, start};
-use libc::{STDIN_FILENO, STDOUT_FILENO};
 use places::Table;
 use replies::{Answered, bad};
+use std::io;
+use std::io::{Read, Write};
+
+// The most bytes of a line that are kept.
+const LINE: usize = 4096;
+
+// How many bytes are read at a time, and how many are gathered to be written.
+const CHUNK: usize = 65536;
 
 // The capacity of the table at the start.
 const CAPACITY: u8 = 80;
@@ -35,9 +42,11 @@ struct State {
 }
 
 // Turn by turn to the end. A count falls at each turn, so that it ends whatever is read.
-fn main() {
-    let mut held = io::buffer();
-    let mut out = io::large_buffer();
+fn main(rt: HostRuntime) -> io::Result<()> {
+    let mut input = rt.reader();
+    let mut output = io::writer(&rt);
+    let mut held = [0u8; LINE];
+    let mut out = [0u8; CHUNK];
     let new = table::new(CAPACITY);
     let table = new.table;
     let mut state = State {
@@ -48,31 +57,46 @@ fn main() {
     };
     let mut turns = u64::MAX;
     while 0 < turns {
-        let next = turn(state, &mut held, &mut out);
+        let next = turn(&mut input, &mut output, state, &mut held, &mut out)?;
         state = next;
         if !next.on {
-            return;
+            return Ok(());
         }
         turns -= 1;
     }
+    Ok(())
 }
 
 // One read, and the lines that end in it. A failed read ends the program, and the line that it cut short is not answered.
-fn turn(state: State, held: &mut [u8], out: &mut [u8]) -> State {
-    let mut chunk = io::large_buffer();
-    let got = libc::read(STDIN_FILENO, &mut chunk);
-    if got < 0 {
-        return flushed(stopped(state), out);
+fn turn(
+    input: &mut impl Read,
+    output: &mut impl Write,
+    state: State,
+    held: &mut [u8],
+    out: &mut [u8],
+) -> io::Result<State> {
+    let mut chunk = [0u8; CHUNK];
+    match input.read(&mut chunk) {
+        Err(e) => {
+            flushed(output, stopped(state), out)?;
+            Err(e)
+        }
+        Ok(0) => {
+            let last = ended(output, state, held, out)?;
+            flushed(output, stopped(last), out)
+        }
+        Ok(n) => fed(output, state, held, out, &chunk[..n]),
     }
-    let n = io::count(got, &chunk);
-    if n == 0 {
-        return flushed(stopped(ended(state, held, out)), out);
-    }
-    fed(state, held, out, &chunk[..n])
 }
 
 // The lines that end in `s`.
-fn fed(state: State, held: &mut [u8], out: &mut [u8], s: &[u8]) -> State {
+fn fed(
+    output: &mut impl Write,
+    state: State,
+    held: &mut [u8],
+    out: &mut [u8],
+    s: &[u8],
+) -> io::Result<State> {
     let mut now = state;
     let mut at: usize = 0;
     while at < s.len() {
@@ -81,31 +105,37 @@ fn fed(state: State, held: &mut [u8], out: &mut [u8], s: &[u8]) -> State {
         at += t.used;
         let next = t.reading;
         let found = t.found;
-        let after = answered(with_reading(now, next), held, out, found);
+        let after = answered(output, with_reading(now, next), held, out, found)?;
         now = after;
         if !after.on {
-            return after;
+            return Ok(after);
         }
     }
-    now
+    Ok(now)
 }
 
 // The input's end.
-fn ended(state: State, held: &[u8], out: &mut [u8]) -> State {
+fn ended(output: &mut impl Write, state: State, held: &[u8], out: &mut [u8]) -> io::Result<State> {
     let reading = state.reading;
     let t = close(reading);
     let next = t.reading;
     let found = t.found;
-    answered(with_reading(state, next), held, out, found)
+    answered(output, with_reading(state, next), held, out, found)
 }
 
 // The answer to a line, if one has ended.
-fn answered(state: State, held: &[u8], out: &mut [u8], found: Found) -> State {
+fn answered(
+    output: &mut impl Write,
+    state: State,
+    held: &[u8],
+    out: &mut [u8],
+    found: Found,
+) -> io::Result<State> {
     let table = state.table;
     match found {
-        Found::Nothing => state,
-        Found::Bad => room_made(told(state, bad(table), out), out),
-        Found::Whole(n) => room_made(told(state, answer(table, held, n), out), out),
+        Found::Nothing => Ok(state),
+        Found::Bad => room_made(output, told(state, bad(table), out), out),
+        Found::Whole(n) => room_made(output, told(state, answer(table, held, n), out), out),
     }
 }
 
@@ -129,24 +159,22 @@ fn told(mut state: State, a: Answered, out: &mut [u8]) -> State {
 }
 
 // The buffer is written out once it is half full: the other half has room for the longest answer, which takes less than 21,000 bytes.
-fn room_made(state: State, out: &[u8]) -> State {
+fn room_made(output: &mut impl Write, state: State, out: &[u8]) -> io::Result<State> {
     if state.filled < out.len() / 2 {
-        return state;
+        return Ok(state);
     }
-    flushed(state, out)
+    flushed(output, state, out)
 }
 
 // The filled bytes written. A failed write ends the program.
-fn flushed(mut state: State, out: &[u8]) -> State {
+fn flushed(output: &mut impl Write, mut state: State, out: &[u8]) -> io::Result<State> {
     let n = state.filled;
     if out.len() < n {
-        return stopped(state);
+        return Ok(stopped(state));
     }
-    if io::write_all(STDOUT_FILENO, &out[..n]) {
-        state.filled = 0;
-        return state;
-    }
-    stopped(state)
+    output.write_all(&out[..n])?;
+    state.filled = 0;
+    Ok(state)
 }
 
 fn stopped(mut state: State) -> State {

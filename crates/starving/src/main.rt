@@ -4,16 +4,17 @@
 #![tactic(auto)]
 
 use instants::Instant;
-use libc::STDOUT_FILENO;
 use places::{HandOut, Table};
+use std::io;
 use subscription::{Request, SENT, Settings};
 use time::KeepAlive;
 
-fn main() {
+fn main(rt: HostRuntime) -> io::Result<()> {
     let mut t = stored(stored(stored(table::new(80).table, 1), 2), 3);
     for i in 2..10u64 {
-        t = turn(t, i * 1000);
+        t = turn(&rt, t, i * 1000)?;
     }
+    Ok(())
 }
 
 // One more is admitted, and its priming is sent.
@@ -30,7 +31,7 @@ fn stored(t: Table, id: u32) -> Table {
 }
 
 // The fridge warms up, and whoever comes first is told.
-fn turn(t: Table, ms: u64) -> Table {
+fn turn(rt: &impl Print, t: Table, ms: u64) -> io::Result<Table> {
     let at = Settings {
         now: Instant::at(ms),
         events: 0,
@@ -38,33 +39,33 @@ fn turn(t: Table, ms: u64) -> Table {
         all: false,
     };
     let reported = table::report(table::note(t, 3, 6, 0).table, at);
-    io::print_decimal(STDOUT_FILENO, ms);
+    print!(rt; "{ms}")?;
     let answer = reported.answer;
     match answer {
         HandOut::To(x) => {
-            name(x.id);
-            table::complete(reported.table, x.id, SENT).table
+            name(rt, x.id)?;
+            Ok(table::complete(reported.table, x.id, SENT).table)
         }
         HandOut::Nothing => {
-            word(b" nothing\n");
-            reported.table
+            word(rt, b" nothing\n")?;
+            Ok(reported.table)
         }
         HandOut::Refused(_) => {
-            word(b" refused\n");
-            reported.table
+            word(rt, b" refused\n")?;
+            Ok(reported.table)
         }
     }
 }
 
-fn name(id: u32) {
+fn name(rt: &impl Print, id: u32) -> io::Result<()> {
     match id {
-        1 => word(b" A\n"),
-        2 => word(b" B\n"),
-        3 => word(b" C\n"),
-        _ => word(b" somebody else\n"),
+        1 => word(rt, b" A\n"),
+        2 => word(rt, b" B\n"),
+        3 => word(rt, b" C\n"),
+        _ => word(rt, b" somebody else\n"),
     }
 }
 
-fn word(text: &[u8]) {
-    io::write_all(STDOUT_FILENO, text);
+fn word(rt: &impl Print, text: &[u8]) -> io::Result<()> {
+    rt.write_all(text)
 }

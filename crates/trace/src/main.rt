@@ -6,15 +6,18 @@
 #![tactic(auto)]
 
 use cutting::{MOST_BYTES, MOST_LINES};
-use libc::{STDIN_FILENO, STDOUT_FILENO};
+use std::io;
+use std::io::{Read, Write};
 use tracing::Session;
+
+// How many bytes are read at a time, and how many written.
+const CHUNK: usize = 65536;
 
 // Whether there is more to read.
 #[derive(Clone, Copy)]
 enum Next {
     More,
     End,
-    Failed,
 }
 
 #[derive(Clone, Copy)]
@@ -23,62 +26,68 @@ struct Turned {
     next: Next,
 }
 
-fn main() {
+fn main(rt: HostRuntime) -> io::Result<()> {
     let mut held = [0u8; MOST_BYTES];
-    let last = all(&mut held);
+    let mut input = rt.reader();
+    let mut output = io::writer(&rt);
+    let last = all(&mut input, &mut output, &mut held)?;
     let next = last.next;
     if is_end(next) {
         let session = last.session;
-        finished(session, &held);
+        finished(&mut output, session, &held)?;
     }
+    Ok(())
 }
 
 // Turn by turn to the end. A count falls at each turn, so that it ends whatever is read.
-fn all(held: &mut [u8]) -> Turned {
+fn all(input: &mut impl Read, output: &mut impl Write, held: &mut [u8]) -> io::Result<Turned> {
     let mut session = tracing::start();
     let mut turns = u64::MAX;
     while turns > 0 {
-        let t = turn(session, held);
+        let t = turn(input, output, session, held)?;
         let next = t.next;
         let after = t.session;
         session = after;
         if !is_more(next) {
-            return Turned {
+            return Ok(Turned {
                 session: session,
                 next: next,
-            };
+            });
         }
         turns -= 1;
     }
-    Turned {
+    Ok(Turned {
         session: session,
-        next: Next::Failed,
-    }
+        next: Next::More,
+    })
 }
 
 // One read, and the answers of the lines that end in what was read.
-fn turn(session: Session, held: &mut [u8]) -> Turned {
-    let mut chunk = io::large_buffer();
-    let got = libc::read(STDIN_FILENO, &mut chunk);
-    if got < 0 {
-        return Turned {
-            session: session,
-            next: Next::Failed,
-        };
-    }
-    if got == 0 {
-        return Turned {
+fn turn(
+    input: &mut impl Read,
+    output: &mut impl Write,
+    session: Session,
+    held: &mut [u8],
+) -> io::Result<Turned> {
+    let mut chunk = [0u8; CHUNK];
+    let n = input.read(&mut chunk)?;
+    if n == 0 {
+        return Ok(Turned {
             session: session,
             next: Next::End,
-        };
+        });
     }
-    let n = io::count(got, &chunk);
-    answered(session, held, &chunk[..n])
+    answered(output, session, held, &chunk[..n])
 }
 
 // All of a chunk: a run for each output buffer that it fills.
-fn answered(session: Session, held: &mut [u8], s: &[u8]) -> Turned {
-    let mut out = io::large_buffer();
+fn answered(
+    output: &mut impl Write,
+    session: Session,
+    held: &mut [u8],
+    s: &[u8],
+) -> io::Result<Turned> {
+    let mut out = [0u8; CHUNK];
     let mut present = session;
     let mut at: usize = 0;
     while at < s.len() {
@@ -87,25 +96,20 @@ fn answered(session: Session, held: &mut [u8], s: &[u8]) -> Turned {
         let used = r.used;
         let wrote = r.wrote;
         present = after;
-        if !io::write_all(STDOUT_FILENO, &out[..wrote]) {
-            return Turned {
-                session: present,
-                next: Next::Failed,
-            };
-        }
+        output.write_all(&out[..wrote])?;
         at += used;
     }
     let reading = present.reading;
-    Turned {
+    Ok(Turned {
         session: present,
         next: after_lines(reading.number),
-    }
+    })
 }
 
-fn finished(session: Session, held: &[u8]) {
+fn finished(output: &mut impl Write, session: Session, held: &[u8]) -> io::Result<()> {
     let mut out = [0u8; 64];
     let wrote = tracing::finish(session, held, &mut out);
-    io::write_all(STDOUT_FILENO, &out[..wrote]);
+    output.write_all(&out[..wrote])
 }
 
 // Reading stops behind the last line that is read.
@@ -120,7 +124,6 @@ fn is_more(next: Next) -> bool {
     match next {
         Next::More => true,
         Next::End => false,
-        Next::Failed => false,
     }
 }
 
@@ -128,6 +131,5 @@ fn is_end(next: Next) -> bool {
     match next {
         Next::More => false,
         Next::End => true,
-        Next::Failed => false,
     }
 }

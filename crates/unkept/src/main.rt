@@ -10,7 +10,6 @@ use changes::ChangedAttrs;
 use choices::Choice;
 use entries::ChangedAttr;
 use instants::Instant;
-use libc::STDOUT_FILENO;
 use notes::Held;
 use places::{
     Admission, Admitted, Alive, Completed, Completion, HandOut, Hearing, Loaded, Moment, Reported,
@@ -18,6 +17,7 @@ use places::{
 };
 use refusal::Refusal;
 use round::Rounding;
+use std::io;
 use subscription::{Request, SENT, Settings, Subscription};
 use time::KeepAlive;
 
@@ -29,46 +29,47 @@ const REQUEST: Request = Request {
     fabric: 1,
 };
 
-fn main() {
-    unkept();
-    kept();
+fn main(rt: HostRuntime) -> io::Result<()> {
+    unkept(&rt)?;
+    kept(&rt)
 }
 
 // Each clause broken alone. In `busy` the ids 3 and 2 are stored in the places 0 and 1, and the priming 4 and the report 1 are open in the
 // places 78 and 79.
-fn unkept() {
+fn unkept(rt: &impl Print) -> io::Result<()> {
     let busy = priming(reporting(three(clean())));
-    calls(b"nothing broken", busy, 1);
-    calls(b"capacity 0", table::new(0).table, 1);
-    calls(b"capacity 81", with_capacity(clean(), 81), 1);
-    calls(b"over capacity", with_capacity(busy, 3), 1);
-    calls(b"17 entries", with_log(busy, 17, 2), 1);
-    calls(b"identity 0", with_log(busy, 1, 0), 1);
-    calls(b"an id stored twice", with_id(busy, 1, 3), 1);
-    calls(b"an id open twice", with_id(busy, 78, 1), 1);
-    calls(b"an id stored and open", with_id(busy, 78, 3), 1);
-    calls(b"fabric 0 stored", without_fabric(busy, 1), 1);
-    calls(b"fabric 0 open", without_fabric(busy, 78), 1);
-    calls(b"two reports", with_report(busy, 78), 1);
+    calls(rt, b"nothing broken", busy, 1)?;
+    calls(rt, b"capacity 0", table::new(0).table, 1)?;
+    calls(rt, b"capacity 81", with_capacity(clean(), 81), 1)?;
+    calls(rt, b"over capacity", with_capacity(busy, 3), 1)?;
+    calls(rt, b"17 entries", with_log(busy, 17, 2), 1)?;
+    calls(rt, b"identity 0", with_log(busy, 1, 0), 1)?;
+    calls(rt, b"an id stored twice", with_id(busy, 1, 3), 1)?;
+    calls(rt, b"an id open twice", with_id(busy, 78, 1), 1)?;
+    calls(rt, b"an id stored and open", with_id(busy, 78, 3), 1)?;
+    calls(rt, b"fabric 0 stored", without_fabric(busy, 1), 1)?;
+    calls(rt, b"fabric 0 open", without_fabric(busy, 78), 1)?;
+    calls(rt, b"two reports", with_report(busy, 78), 1)?;
     calls(
+        rt,
         b"a reason without a report",
         with_cancel(priming(three(clean())), 9),
         4,
-    );
+    )
 }
 
 // Well-kept states, each without rubbish and with it, which changes no answer. Refused are only a second report, a clear while a priming is
 // open, and a completion or a question that asks for one that is not open.
-fn kept() {
+fn kept(rt: &impl Print) -> io::Result<()> {
     let neat = three(clean());
     let orphans = three(strewn(0));
     let others = three(strewn(1));
-    calls(b"nothing open", neat, 1);
-    calls(b"nothing open, rubbish", orphans, 1);
-    calls(b"a report open", reporting(neat), 1);
-    calls(b"a report open, rubbish", reporting(orphans), 1);
-    calls(b"a priming open", priming(neat), 4);
-    calls(b"a priming open, rubbish", priming(others), 4);
+    calls(rt, b"nothing open", neat, 1)?;
+    calls(rt, b"nothing open, rubbish", orphans, 1)?;
+    calls(rt, b"a report open", reporting(neat), 1)?;
+    calls(rt, b"a report open, rubbish", reporting(orphans), 1)?;
+    calls(rt, b"a priming open", priming(neat), 4)?;
+    calls(rt, b"a priming open, rubbish", priming(others), 4)
 }
 
 // A table that has been told of one change: attribute 0 in cluster 6 of endpoint 3.
@@ -198,193 +199,196 @@ fn with_cancel(mut t: Table, reason: u8) -> Table {
 }
 
 // Every call that takes a table; `id` is whom completion and the questions to an open one ask for.
-fn calls(state: &[u8], t: Table, id: u32) {
-    line(state, b"add");
-    admitted(t, table::add(t, REQUEST, 0, Instant::at(31000)));
-    line(state, b"resume");
-    admitted(t, table::resume(t, 9, REQUEST, 0));
-    line(state, b"note");
-    noted(t, table::note(t, 3, 6, 1));
-    line(state, b"report");
-    reported(t, table::report(t, due()));
-    line(state, b"complete");
-    completed(t, table::complete(t, id, SENT));
-    line(state, b"remove");
-    woken(t, table::remove(t, Choice::All, 9));
-    line(state, b"clear");
-    woken(t, table::clear(t));
-    line(state, b"purge");
-    settled(t, table::purge_reported_changes(t));
-    line(state, b"round");
-    rounded(t);
-    questions(state, t, id);
+fn calls(rt: &impl Print, state: &[u8], t: Table, id: u32) -> io::Result<()> {
+    line(rt, state, b"add")?;
+    admitted(rt, t, table::add(t, REQUEST, 0, Instant::at(31000)))?;
+    line(rt, state, b"resume")?;
+    admitted(rt, t, table::resume(t, 9, REQUEST, 0))?;
+    line(rt, state, b"note")?;
+    noted(rt, t, table::note(t, 3, 6, 1))?;
+    line(rt, state, b"report")?;
+    reported(rt, t, table::report(t, due()))?;
+    line(rt, state, b"complete")?;
+    completed(rt, t, table::complete(t, id, SENT))?;
+    line(rt, state, b"remove")?;
+    woken(rt, t, table::remove(t, Choice::All, 9))?;
+    line(rt, state, b"clear")?;
+    woken(rt, t, table::clear(t))?;
+    line(rt, state, b"purge")?;
+    settled(rt, t, table::purge_reported_changes(t))?;
+    line(rt, state, b"round")?;
+    rounded(rt, t)?;
+    questions(rt, state, t, id)
 }
 
-fn questions(state: &[u8], t: Table, id: u32) {
-    line(state, b"attribute");
-    told(table::should_report_attr(t, id, 3, 6, 0));
-    line(state, b"send if empty");
-    told(table::should_send_if_empty(t, id, KeepAlive::Default));
-    line(state, b"next instant");
-    moment(table::next_report_at(t, 0, KeepAlive::Default));
-    line(state, b"any reportable");
-    told(table::any_reportable(t, Instant::at(2000), 0, KeepAlive::Default));
-    line(state, b"next keep-alive");
-    alive(table::next_keep_alive_at(t));
-    line(state, b"statistics");
-    loaded(table::load_stats(t, 1));
-    line(state, b"has subscription");
-    told(table::has_subscription_for(t, 1, 8));
-    line(state, b"well kept");
-    told(Told::Is(table::is_kept(t)));
+fn questions(rt: &impl Print, state: &[u8], t: Table, id: u32) -> io::Result<()> {
+    line(rt, state, b"attribute")?;
+    told(rt, table::should_report_attr(t, id, 3, 6, 0))?;
+    line(rt, state, b"send if empty")?;
+    told(rt, table::should_send_if_empty(t, id, KeepAlive::Default))?;
+    line(rt, state, b"next instant")?;
+    moment(rt, table::next_report_at(t, 0, KeepAlive::Default))?;
+    line(rt, state, b"any reportable")?;
+    told(
+        rt,
+        table::any_reportable(t, Instant::at(2000), 0, KeepAlive::Default),
+    )?;
+    line(rt, state, b"next keep-alive")?;
+    alive(rt, table::next_keep_alive_at(t))?;
+    line(rt, state, b"statistics")?;
+    loaded(rt, table::load_stats(t, 1))?;
+    line(rt, state, b"has subscription")?;
+    told(rt, table::has_subscription_for(t, 1, 8))?;
+    line(rt, state, b"well kept")?;
+    told(rt, Told::Is(table::is_kept(t)))
 }
 
 // The id that was given.
-fn admitted(given: Table, r: Admitted) {
+fn admitted(rt: &impl Print, given: Table, r: Admitted) -> io::Result<()> {
     let answer = r.answer;
     match answer {
-        Admission::Id(id) => acted(id as u64),
-        Admission::Refused(why) => refused(why),
+        Admission::Id(id) => acted(rt, id as u64)?,
+        Admission::Refused(why) => refused(rt, why)?,
     }
-    back(given, r.table);
+    back(rt, given, r.table)
 }
 
 // The identity, and whether it wakes.
-fn noted(given: Table, r: TableNoted) {
+fn noted(rt: &impl Print, given: Table, r: TableNoted) -> io::Result<()> {
     let answer = r.answer;
     match answer {
         Hearing::Entered(x) => {
-            acted(x.identity);
-            number(flag(x.wakes));
+            acted(rt, x.identity)?;
+            number(rt, flag(x.wakes))?;
         }
-        Hearing::Refused(why) => refused(why),
+        Hearing::Refused(why) => refused(rt, why)?,
     }
-    back(given, r.table);
+    back(rt, given, r.table)
 }
 
 // The id and the request number, or nothing.
-fn reported(given: Table, r: Reported) {
+fn reported(rt: &impl Print, given: Table, r: Reported) -> io::Result<()> {
     let answer = r.answer;
     match answer {
         HandOut::To(x) => {
-            acted(x.id as u64);
-            number(x.rx as u64);
+            acted(rt, x.id as u64)?;
+            number(rt, x.rx as u64)?;
         }
-        HandOut::Nothing => word(b" 0 nothing"),
-        HandOut::Refused(why) => refused(why),
+        HandOut::Nothing => word(rt, b" 0 nothing")?,
+        HandOut::Refused(why) => refused(rt, why)?,
     }
-    back(given, r.table);
+    back(rt, given, r.table)
 }
 
 // Whether it is kept, and whether its subscriber has gone quiet.
-fn completed(given: Table, r: Completed) {
+fn completed(rt: &impl Print, given: Table, r: Completed) -> io::Result<()> {
     let answer = r.answer;
     match answer {
         Completion::Ended(x) => {
-            acted(flag(x.kept));
-            number(flag(x.failed));
+            acted(rt, flag(x.kept))?;
+            number(rt, flag(x.failed))?;
         }
-        Completion::Refused(why) => refused(why),
+        Completion::Refused(why) => refused(rt, why)?,
     }
-    back(given, r.table);
+    back(rt, given, r.table)
 }
 
 // Whether it wakes.
-fn woken(given: Table, r: Woken) {
+fn woken(rt: &impl Print, given: Table, r: Woken) -> io::Result<()> {
     let answer = r.answer;
     match answer {
-        Waking::Wakes(wakes) => acted(flag(wakes)),
-        Waking::Refused(why) => refused(why),
+        Waking::Wakes(wakes) => acted(rt, flag(wakes))?,
+        Waking::Refused(why) => refused(rt, why)?,
     }
-    back(given, r.table);
+    back(rt, given, r.table)
 }
 
-fn settled(given: Table, r: Settled) {
+fn settled(rt: &impl Print, given: Table, r: Settled) -> io::Result<()> {
     let answer = r.answer;
     match answer {
-        Change::Done => word(b" 0"),
-        Change::Refused(why) => refused(why),
+        Change::Done => word(rt, b" 0")?,
+        Change::Refused(why) => refused(rt, why)?,
     }
-    back(given, r.table);
+    back(rt, given, r.table)
 }
 
 // How many a round of two outcomes handed out, and whether nothing is reportable then; behind the colon the ids, which were 77.
-fn rounded(given: Table) {
+fn rounded(rt: &impl Print, given: Table) -> io::Result<()> {
     let outcomes = [SENT; 2];
     let mut ids = [77u32; 2];
     let r = round::round(given, due(), &outcomes, &mut ids);
     let answer = r.answer;
     match answer {
         Rounding::Made(x) => {
-            acted(x.handouts as u64);
-            number(flag(x.silent));
+            acted(rt, x.handouts as u64)?;
+            number(rt, flag(x.silent))?;
         }
-        Rounding::Refused(why) => refused(why),
+        Rounding::Refused(why) => refused(rt, why)?,
     }
-    word(b" :");
-    number(wide(ids[0]));
-    number(wide(ids[1]));
-    back(given, r.table);
+    word(rt, b" :")?;
+    number(rt, wide(ids[0]))?;
+    number(rt, wide(ids[1]))?;
+    back(rt, given, r.table)
 }
 
-fn told(answer: Told) {
+fn told(rt: &impl Print, answer: Told) -> io::Result<()> {
     match answer {
-        Told::Is(yes) => acted(flag(yes)),
-        Told::Refused(why) => refused(why),
+        Told::Is(yes) => acted(rt, flag(yes))?,
+        Told::Refused(why) => refused(rt, why)?,
     }
-    word(b"\n");
+    word(rt, b"\n")
 }
 
-fn moment(answer: Moment) {
+fn moment(rt: &impl Print, answer: Moment) -> io::Result<()> {
     match answer {
-        Moment::At(x) => acted(x.ms),
-        Moment::Refused(why) => refused(why),
+        Moment::At(x) => acted(rt, x.ms)?,
+        Moment::Refused(why) => refused(rt, why)?,
     }
-    word(b"\n");
+    word(rt, b"\n")
 }
 
-fn alive(answer: Alive) {
+fn alive(rt: &impl Print, answer: Alive) -> io::Result<()> {
     match answer {
-        Alive::At(x) => acted(x.ms),
-        Alive::Never => word(b" 0 never"),
-        Alive::Refused(why) => refused(why),
+        Alive::At(x) => acted(rt, x.ms)?,
+        Alive::Never => word(rt, b" 0 never")?,
+        Alive::Refused(why) => refused(rt, why)?,
     }
-    word(b"\n");
+    word(rt, b"\n")
 }
 
 // Counted places, the stored of the fabric, and the ids given so far.
-fn loaded(answer: Loaded) {
+fn loaded(rt: &impl Print, answer: Loaded) -> io::Result<()> {
     match answer {
         Loaded::Is(x) => {
-            acted(x.places as u64);
-            number(x.fabric as u64);
-            number(x.established as u64);
+            acted(rt, x.places as u64)?;
+            number(rt, x.fabric as u64)?;
+            number(rt, x.established as u64)?;
         }
-        Loaded::Refused(why) => refused(why),
+        Loaded::Refused(why) => refused(rt, why)?,
     }
-    word(b"\n");
+    word(rt, b"\n")
 }
 
-fn line(state: &[u8], call: &[u8]) {
-    word(state);
-    word(b": ");
-    word(call);
+fn line(rt: &impl Print, state: &[u8], call: &[u8]) -> io::Result<()> {
+    word(rt, state)?;
+    word(rt, b": ")?;
+    word(rt, call)
 }
 
-fn acted(value: u64) {
-    word(b" 0");
-    number(value);
+fn acted(rt: &impl Print, value: u64) -> io::Result<()> {
+    word(rt, b" 0")?;
+    number(rt, value)
 }
 
-fn refused(why: Refusal) {
-    number(why.number() as u64);
+fn refused(rt: &impl Print, why: Refusal) -> io::Result<()> {
+    number(rt, why.number() as u64)
 }
 
-fn back(given: Table, table: Table) {
+fn back(rt: &impl Print, given: Table, table: Table) -> io::Result<()> {
     if same(given, table) {
-        word(b" same\n");
+        word(rt, b" same\n")
     } else {
-        word(b" changed\n");
+        word(rt, b" changed\n")
     }
 }
 
@@ -392,13 +396,12 @@ fn wide(id: u32) -> u64 {
     id as u64
 }
 
-fn number(n: u64) {
-    word(b" ");
-    io::print_decimal(STDOUT_FILENO, n);
+fn number(rt: &impl Print, n: u64) -> io::Result<()> {
+    print!(rt; " {n}")
 }
 
-fn word(text: &[u8]) {
-    io::write_all(STDOUT_FILENO, text);
+fn word(rt: &impl Print, text: &[u8]) -> io::Result<()> {
+    rt.write_all(text)
 }
 
 // Whether two tables are equal, every place and every field of them. The contract says that a yes can be trusted; that it is ever given is
