@@ -4,7 +4,7 @@ use Rattle.std.proofs.Common.{◌≡◌, ℕ, ◌+◌, ◌-◌, ◌<◌, ◌≤�
 use Rattle.cutting.specs.Steps.{scan_of}
 use Rattle.cutting.specs.declared.Reading.{Reading}
 use Rattle.cutting.specs.declared.Scanned.{Scanned}
-use Rattle.cutting.proofs.Scans.{scan-is}
+use Rattle.cutting.proofs.Scans.{scan_is}
 use Rattle.lists.proofs.Parts.{rest}
 use Rattle.replay.proofs.fed.Goals as goal
 
@@ -13,7 +13,7 @@ uses : (t : Scanned) (r : Reading) (held held' s : List ℕ) (at : ℕ) → at <
     → (t, held') ≡ scan_of r held (take (length s - at) (drop at s))
     → (at < at + t.used) × (at + t.used ≤ length s)
 uses t r held held' s at h e =
-    let p = scan-is r held (drop at s) in
+    let p = scan_is r held (drop at s) in
     let f : (t, held') ≡ scan_of r held (drop at s) = e ∙ ap (scan_of r held) (rest s at) in
     let u : t.used ≡ (scan_of r held (drop at s)).0.used = ap (λ (x : Scanned × List ℕ). x.0.used) f in
     let n : length (drop at s) ≡ length s - at = length-drop at s in

@@ -2,7 +2,7 @@
 -- Assumes nothing.
 use Rattle.std.proofs.Common.{◌≡◌, drop, ap, ◌∙◌, arith, rules}
 use Rattle.fields.specs.Fields.{field_of}
-use Rattle.fields.proofs.Rows.{part-begins}
+use Rattle.fields.proofs.Rows.{part_begins}
 use Rattle.lists.proofs.Parts.{rest}
 use Rattle.replay.proofs.rounds.read_outcomes.Goals as goal
 use Rattle.replay.proofs.rounds.read_outcomes.Goals.{After-read_field}
@@ -13,8 +13,8 @@ read c = c.read_field.ensures ∙ ap (field_of _) (rest c.args.s.now c.loop-coun
 
 pub overflow_add-at : goal.overflow_add-at
 overflow_add-at c =
-    omega (arith, part-begins _ _ _ _ _ _ c.loop-count.invariant.0 (read (goal.at.overflow_add-at c).After-read_field) c.in-More.is)
+    omega (arith, part_begins _ _ _ _ _ _ c.loop-count.invariant.0 (read (goal.at.overflow_add-at c).After-read_field) c.in-More.is)
 
 pub loop-count-preserved : goal.loop-count-preserved
 loop-count-preserved c =
-    (part-begins _ _ _ _ _ _ c.loop-count.invariant.0 (read (goal.at.loop-count-preserved c).After-read_field) c.in-More.is, search rules)
+    (part_begins _ _ _ _ _ _ c.loop-count.invariant.0 (read (goal.at.loop-count-preserved c).After-read_field) c.in-More.is, search rules)
