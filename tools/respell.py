@@ -115,7 +115,8 @@ def main():
                 old = read(path)
             except UnicodeDecodeError:
                 continue
-            new = turn(old, words, dict(FIELDS, **LEMMAS.get(path, {})))
+            lemmas = LEMMAS.get(path, {})
+            new = turn(old, words, dict(FIELDS, **({} if any(it in old for it in lemmas.values()) else lemmas)))
             if path.startswith("crates/") and path.endswith((".antt", ".edit")):
                 for a, b in VALUES.items():
                     new = re.sub(r"(?<![\w'.-])" + a + r"(?![\w'-])", b, new)

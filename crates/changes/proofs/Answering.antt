@@ -11,7 +11,7 @@ use Rattle.answers.specs.declared.Told.TheVariants as told
 use Rattle.answers.specs.declared.Mark.TheVariants as mark
 use Rattle.notes.specs.Places.{held_as}
 use Rattle.changes.specs.Logs.{entries_of, holding, empty_log, kept, fresh_log, watermark_of, after_note, noted, after_purge, purged, cleared, marked, newest_of, newest_mark, any_since, changed_since, any_told, path_told}
-use Rattle.changes.specs.Reach.{Tidy, note}
+use Rattle.changes.specs.Reach.{Tidy}
 use Rattle.lists.proofs.Bools.{and_true}
 use Rattle.changes.proofs.Cases.{kept_fits, kept_next}
 use Rattle.notes.proofs.Laws.{list_held, length_held, none_held}

@@ -80,15 +80,15 @@ identity_after_the_last = refl
 -- ---- the table
 
 -- a table of one place is full with one
-abbrev one_place_lem : Diary
-one_place_lem =
+abbrev one_place : Diary
+one_place =
     (call.new 1, call.number 1)
     ∷ (call.add request 0 (instant 1000), call.number 1)
     ∷ (call.add request 0 (instant 1000), call.refused Full)
     ∷ (call.resume 9 request 0, call.refused Full)
     ∷ []
 
-pub one_place_lem : Answers one_place_lem
+pub one_place_lem : Answers one_place
 unfolding original_rules
 one_place_lem = refl
 

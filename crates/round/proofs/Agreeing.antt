@@ -42,11 +42,11 @@ pub record Fine (t : Table) : Type 0 where
   pub shut : report_open (view t) ≡ false
 
 -- a turn by whom the machine's answer hands out
-abbrev turn_by_lem : List ℕ → Table → ℕ → Turn
-turn_by_lem [] t o = no_turn t
-turn_by_lem (id ∷ rest) t o = record { made = true; id = id; table = (complete_in t id o).table }
+abbrev turn_by : List ℕ → Table → ℕ → Turn
+turn_by [] t o = no_turn t
+turn_by (id ∷ rest) t o = record { made = true; id = id; table = (complete_in t id o).table }
 
-turn_by_lem : (a : HandOut) (t : Table) (o : ℕ) → turn_after a t o ≡ turn_by_lem (handed_id (hand_out_answer a)) t o
+turn_by_lem : (a : HandOut) (t : Table) (o : ℕ) → turn_after a t o ≡ turn_by (handed_id (hand_out_answer a)) t o
 turn_by_lem (hand_out.To x) t o = refl
 turn_by_lem hand_out.Nothing t o = refl
 turn_by_lem (hand_out.Refused why) t o = refl
@@ -91,7 +91,7 @@ module _ (at : Settings) (t : Table) (f : Fine t) where
     unfolding turn_of
     still_turn o =
         turn_by_lem (report_in t at).answer (report_in t at).table o
-        ∙ ap (λ p. turn_by_lem (handed_id p.answer) (report_in t at).table o) still
+        ∙ ap (λ p. turn_by (handed_id p.answer) (report_in t at).table o) still
 
     pub still_silent : is_silent t at ≡ true
     unfolding is_silent is_shut
@@ -122,7 +122,7 @@ module _ (at : Settings) (t : Table) (f : Fine t) where
       unfolding turn_of
       made_turn =
           turn_by_lem (report_in t at).answer (report_in t at).table o
-          ∙ ap (λ p. turn_by_lem (handed_id p.answer) (report_in t at).table o) handed
+          ∙ ap (λ p. turn_by (handed_id p.answer) (report_in t at).table o) handed
 
       made_view : (n : ℕ) (ids : List ℕ) → view after ≡ (turned at o (record { hand_outs = n; ids = ids; state = view t })).state
       made_view n ids =

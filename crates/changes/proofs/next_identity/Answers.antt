@@ -1,6 +1,6 @@
 -- `next_identity` meets its contract: the wrapping sum is 0 exactly at the last identity.
 -- Assumes nothing.
-use Rattle.std.proofs.Common.{◌≡◌, arith, rules, eq-eqb, ne_eqb}
+use Rattle.std.proofs.Common.{◌≡◌, arith, eq-eqb, ne_eqb}
 use Rattle.changes.specs.Logs.{identity_after}
 use Rattle.changes.proofs.next_identity.Goals as goal
 

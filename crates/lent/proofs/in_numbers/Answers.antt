@@ -1,6 +1,5 @@
 -- `in_numbers` meets its contract: each arm is a case of the definitions, and `number` gives the refusal's number.
 -- Assumes nothing.
-use borrow.Author.Rules.{rules}
 use Rattle.lent.proofs.in_numbers.Goals as goal
 
 pub returns-in-Entered : goal.returns-in-Entered

@@ -1,6 +1,5 @@
 -- `numbered_note` meets its contract: what `note` answers, put in numbers.
 -- Assumes nothing.
-use borrow.Author.Rules.{rules}
 use Rattle.lent.proofs.numbered_note.Goals as goal
 
 pub returns : goal.returns

@@ -1,7 +1,6 @@
 -- `add_with` meets its contract: each number is within its width, so each cast loses nothing.
 -- Assumes nothing.
 use native.Mathlib.Omega.{arith}
-use borrow.Author.Rules.{rules}
 use Rattle.lines.proofs.add_with.Goals as goal
 
 pub overflow_cast-result : goal.overflow_cast-result

@@ -1,7 +1,6 @@
 -- `line_of` meets its contract: `made` goes by the same test.
 -- Assumes nothing.
 use mathlib.Core.Path.{◌∙◌}
-use borrow.Author.Rules.{rules}
 use Rattle.lines.proofs.line_of.Goals as goal
 
 pub returns-then-n : goal.returns-then-n

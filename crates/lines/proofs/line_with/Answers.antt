@@ -6,7 +6,6 @@ use Prim.Native.Nat.{ℕ, ◌≤◌}
 use native.Mathlib.Omega.{arith}
 use mir.Syntax.{w8, w16, w32}
 use mir.Val.{Fits}
-use borrow.Author.Rules.{rules}
 use Rattle.fields.specs.Rows.{bits8, bits16, bits32}
 use Rattle.lines.proofs.line_with.Goals as goal
 

@@ -2,7 +2,7 @@
 -- Assumes nothing.
 use mathlib.Core.Path.{sym, ap, ◌∙◌}
 use native.Mathlib.Nat.{le_of_lt}
-use lib.Seq.{length-take-le, take_all}
+use lib.Seq.{take_all}
 use borrow.Author.Rules.{rules}
 use Rattle.lines.specs.Lines.{line_of}
 use Rattle.lines.proofs.read_held.Goals as goal

@@ -1,6 +1,5 @@
 -- `read_line` meets its contract: in each arm the kind is known, and the line is what that kind makes of the fields behind its word.
 -- Assumes nothing.
-use borrow.Author.Rules.{rules}
 use Rattle.fields.proofs.Rows.{numbers_fit}
 use Rattle.lines.proofs.Lines.{line_made, line_other}
 use Rattle.lines.proofs.read_line.Goals as goal

@@ -1,7 +1,6 @@
 -- `are_bad` meets its contract: a bad outcome, or slices of different lengths.
 -- Assumes nothing.
 use mathlib.Core.Path.{sym, ◌∙◌}
-use borrow.Author.Rules.{rules}
 use Rattle.round.proofs.are_bad.Goals as goal
 
 pub returns-then-has_bad : goal.returns-then-has_bad

@@ -1,12 +1,10 @@
 -- `has_bad` meets its contract: what is left to look at has a bad outcome exactly where the whole slice has one.
 -- Assumes nothing.
-use mathlib.Core.Path.{◌≡◌, refl, sym, ◌∙◌}
+use mathlib.Core.Path.{◌≡◌}
 use Prim.Native.Nat.{◌-◌, ◌≤◌}
-use borrow.Author.Rules.{rules}
 use lib.ListN.{length, drop}
 use Rattle.lists.specs.Search.{some}
 use Rattle.rules.specs.Machine.{bad_outcome}
-use Rattle.round.proofs.Steps.{bad_here, good_here, good_end}
 use Rattle.round.proofs.has_bad.Given as goal
 
 abbrev pub invariant-loop-i : goal.invariant-loop-i

@@ -1,6 +1,5 @@
 -- `is_shut` meets its contract: the answer of a report, case by case.
 -- Assumes nothing.
-use borrow.Author.Rules.{rules}
 use Rattle.round.specs.Rounds.{is_shut}
 use Rattle.round.proofs.is_shut.Goals as goal
 

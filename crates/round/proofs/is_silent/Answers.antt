@@ -1,6 +1,5 @@
 -- `is_silent` meets its contract: the answer of a report, case by case.
 -- Assumes nothing.
-use borrow.Author.Rules.{rules}
 use Rattle.round.specs.Rounds.{is_silent}
 use Rattle.round.proofs.is_silent.Goals as goal
 

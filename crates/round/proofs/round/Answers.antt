@@ -1,12 +1,9 @@
 -- `round` meets its contract: refused with 7, for its slices or for an open report, or the turns that `serve` makes.
 -- Assumes nothing.
 use mathlib.Core.Path.{◌≡◌, sym, ◌∙◌}
-use borrow.Author.Tests.{not-true, not-false}
-use borrow.Author.Rules.{rules}
 use lib.ListN.{length}
 use Rattle.round.specs.Rounds.{round_of}
 use Rattle.rules.specs.Calls as call
-use Rattle.lists.proofs.Arrays.{full}
 use Rattle.round.proofs.Refusing.{same_lengths, shut_is, refused_slices, refused_shut, not_refused}
 use Rattle.places.proofs.Refusing.{unkept}
 use Rattle.round.proofs.round.Goals as goal

@@ -1,11 +1,9 @@
 -- `serve` meets its contract: what is left of the round is the round of the outcomes that are left.
 -- Assumes nothing.
-use mathlib.Core.Path.{◌≡◌, refl, sym, ◌∙◌}
-use Prim.Native.Nat.{◌-◌, ◌≤◌}
+use mathlib.Core.Path.{refl, sym, ◌∙◌}
 use native.Mathlib.Omega.{arith}
 use borrow.Author.Rules.{rules}
-use lib.ListN.{length, drop, length-set}
-use Rattle.round.specs.Rounds.{served}
+use lib.ListN.{length-set}
 use Rattle.round.proofs.Steps.{turn_made, turn_missed, turns_end}
 use Rattle.round.proofs.serve.Goals as goal
 

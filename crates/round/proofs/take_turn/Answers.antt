@@ -1,6 +1,5 @@
 -- `take_turn` meets its contract: a report, and its completion where somebody was handed out.
 -- Assumes nothing.
-use borrow.Author.Rules.{rules}
 use Rattle.round.specs.Rounds.{turn_of}
 use Rattle.round.proofs.take_turn.Goals as goal
 

@@ -1,7 +1,6 @@
 -- `add` meets its contract: refused with 7, refused as `admits` says, or admitted; where nothing objects there is room.
 -- Assumes nothing.
-use Rattle.std.proofs.Common.{◌≡◌, length, sym, ap, ◌∙◌, arith, rules}
-use borrow.Author.Tests.{not-true, not-false}
+use Rattle.std.proofs.Common.{◌≡◌, length, sym, ap, ◌∙◌, arith}
 use Rattle.places.specs.Calls.{admit_objections, add_to}
 use Rattle.rules.specs.Machine.{first_of}
 use Rattle.answers.specs.Numbers.{mark_value}
@@ -10,7 +9,6 @@ use Rattle.rules.specs.Calls as call
 use Rattle.places.proofs.Refusing.{kept_counts, kept_log, past_kept, unkept, add_same, room_left}
 use Rattle.table.proofs.Verdicts.{verdict_clear, verdict_why}
 use Rattle.changes.proofs.Answering.{mark_answer}
-use Rattle.lists.proofs.Arrays.{full}
 use Rattle.table.proofs.add.Goals as goal
 use Rattle.table.proofs.add.Goals.{Start}
 

@@ -1,7 +1,6 @@
 -- `any_reportable` meets its contract: refused with 7 or served, and the scan stops within the stored ones exactly where one is reportable.
 -- Assumes nothing.
-use Rattle.std.proofs.Common.{◌≡◌, sym, ap, ◌∙◌, arith, rules}
-use borrow.Author.Tests.{not-true, not-false}
+use Rattle.std.proofs.Common.{◌≡◌, sym, ap, ◌∙◌, arith}
 use Rattle.places.specs.Calls.{first_ready, any_at}
 use Rattle.places.specs.Views.{view}
 use Rattle.answers.specs.Numbers.{mark_value}

@@ -1,10 +1,9 @@
 -- `cancels` meets its contract: the scan of the open ones finds the report exactly where the choice takes it.
 -- Assumes nothing.
-use Rattle.std.proofs.Common.{arith, rules, eq-eqb, ne_eqb}
+use Rattle.std.proofs.Common.{arith, eq-eqb, ne_eqb}
 use Rattle.places.specs.Calls.{cancels_in}
 use Rattle.places.specs.Tests.{struck}
 use Rattle.places.proofs.Finding.{open_there}
-use Rattle.lists.proofs.Arrays.{full}
 use Rattle.table.proofs.cancels.Goals as goal
 
 pub returns-then-table-eq0 : goal.returns-then-table-eq0

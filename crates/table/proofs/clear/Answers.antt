@@ -1,7 +1,6 @@
 -- `clear` meets its contract: the tests are the objections, in their order, and a scan tells whether there is a report to cancel.
 -- Assumes nothing.
-use Rattle.std.proofs.Common.{◌≡◌, [], length, sym, ap, ◌∙◌, arith, rules, le-ltb, lt-ltb}
-use borrow.Author.Tests.{not-true, not-false}
+use Rattle.std.proofs.Common.{◌≡◌, [], length, sym, ap, ◌∙◌, arith, le-ltb, lt-ltb}
 use Rattle.refusal.specs.declared.Refusal.TheVariants.{PrimingOpen}
 use Rattle.places.specs.Calls.{clear_in}
 use Rattle.places.specs.Views.{view}
@@ -11,7 +10,6 @@ use Rattle.rules.specs.Calls as call
 use Rattle.places.proofs.Refusing.{kept_counts, past_kept, unkept}
 use Rattle.places.proofs.Finding.{open_there}
 use Rattle.rules.proofs.Clauses.{clear_objects, first_holds, first_passed, first_none}
-use Rattle.lists.proofs.Arrays.{full}
 use Rattle.table.proofs.clear.Goals as goal
 use Rattle.table.proofs.clear.Goals.{Start}
 

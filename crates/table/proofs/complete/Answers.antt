@@ -1,7 +1,6 @@
 -- `complete` meets its contract: the tests are the objections, in their order, and the scan finds the open one.
 -- Assumes nothing.
-use Rattle.std.proofs.Common.{◌≡◌, [], length, sym, ap, ◌∙◌, arith, rules, le-ltb, lt-ltb}
-use borrow.Author.Tests.{not-true, not-false}
+use Rattle.std.proofs.Common.{◌≡◌, [], length, sym, ap, ◌∙◌, arith, le-ltb, lt-ltb}
 use Rattle.refusal.specs.declared.Refusal.TheVariants.{BadArgument, NotOpen}
 use Rattle.places.specs.Calls.{open_at, complete_in}
 use Rattle.places.specs.Views.{view}
@@ -11,7 +10,6 @@ use Rattle.rules.specs.Calls as call
 use Rattle.places.proofs.Refusing.{kept_counts, past_kept, unkept}
 use Rattle.places.proofs.Finding.{none_open, one_open}
 use Rattle.rules.proofs.Clauses.{complete_objects, first_holds, first_passed, first_none}
-use Rattle.lists.proofs.Arrays.{full}
 use Rattle.table.proofs.complete.Goals as goal
 use Rattle.table.proofs.complete.Goals.{Start}
 

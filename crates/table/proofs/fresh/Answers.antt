@@ -1,6 +1,5 @@
 -- `fresh` meets its contract by what `ChangedAttrs::new` ensures.
 -- Assumes nothing.
-use Rattle.std.proofs.Common.{rules}
 use Rattle.table.proofs.fresh.Goals as goal
 
 pub returns : goal.returns

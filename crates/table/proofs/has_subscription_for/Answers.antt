@@ -1,7 +1,6 @@
 -- `has_subscription_for` meets its contract: refused with 7 or served by a scan.
 -- Assumes nothing.
-use Rattle.std.proofs.Common.{sym, ◌∙◌, arith, rules}
-use borrow.Author.Tests.{not-true, not-false}
+use Rattle.std.proofs.Common.{sym, ◌∙◌, arith}
 use Rattle.places.specs.Calls.{has_at}
 use Rattle.places.specs.Views.{view}
 use Rattle.rules.specs.Calls as call

@@ -2,13 +2,11 @@
 -- Assumes nothing.
 use Rattle.std.proofs.Common.{◌≡◌, ℕ, ◌+◌, ◌≤◌, Bool, List, ◌++◌, map, length, take, sym, ap, ◌∙◌, arith, length-take-le, rules}
 use mathlib.Core.Bool.{and-false}
-use borrow.Author.Tests.{not-true, not-false}
 use Rattle.places.specs.declared.Table.{Table}
 use Rattle.places.specs.Views.{stored_of, opens_of}
 use Rattle.lists.specs.Search.{distinct}
 use Rattle.table.proofs.Inside.{not_within, counts_fit, within_kept}
 use Rattle.table.proofs.Steps.{live_length}
-use Rattle.lists.proofs.Arrays.{full}
 use Rattle.lists.proofs.Maps.{distinct_map}
 use Rattle.table.proofs.is_kept.Goals as goal
 use Rattle.table.proofs.is_kept.Goals.{Start}

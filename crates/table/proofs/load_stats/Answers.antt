@@ -1,7 +1,6 @@
 -- `load_stats` meets its contract: refused with 7 or served by a count.
 -- Assumes nothing.
 use Rattle.std.proofs.Common.{sym, ◌∙◌, rules}
-use borrow.Author.Tests.{not-true, not-false}
 use Rattle.places.specs.Calls.{load_of}
 use Rattle.places.specs.Views.{view}
 use Rattle.rules.specs.Calls as call

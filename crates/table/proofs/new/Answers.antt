@@ -1,6 +1,6 @@
 -- `new` meets its contract: with nothing counted, only the capacity is left to test.
 -- Assumes nothing.
-use Rattle.std.proofs.Common.{◌≡◌, ℕ, ◌+◌, ◌&&◌, leb, sym, ◌∙◌, arith, rules, le-leb}
+use Rattle.std.proofs.Common.{◌≡◌, ℕ, ◌+◌, ◌&&◌, leb, sym, ◌∙◌, arith, le-leb}
 use mathlib.Core.Bool.{and-true}
 use Rattle.places.specs.Calls.{new_table}
 use Rattle.rules.specs.States.{capacity_fits}

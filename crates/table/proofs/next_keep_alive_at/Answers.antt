@@ -1,7 +1,6 @@
 -- `next_keep_alive_at` meets its contract: refused with 7 or served by a scan for the least.
 -- Assumes nothing.
-use Rattle.std.proofs.Common.{sym, ◌∙◌, arith, rules, eq-eqb, ne_eqb}
-use borrow.Author.Tests.{not-true, not-false}
+use Rattle.std.proofs.Common.{sym, ◌∙◌, arith, eq-eqb, ne_eqb}
 use Rattle.places.specs.Calls.{alive_at}
 use Rattle.places.specs.Views.{view}
 use Rattle.rules.specs.Calls as call

@@ -1,7 +1,6 @@
 -- `next_report_at` meets its contract: refused with 7 or served by a scan for the least.
 -- Assumes nothing.
-use Rattle.std.proofs.Common.{◌≡◌, sym, ap, ◌∙◌, arith, rules}
-use borrow.Author.Tests.{not-true, not-false}
+use Rattle.std.proofs.Common.{◌≡◌, sym, ap, ◌∙◌, arith}
 use Rattle.places.specs.Calls.{next_at}
 use Rattle.places.specs.Views.{view}
 use Rattle.answers.specs.Numbers.{mark_value}

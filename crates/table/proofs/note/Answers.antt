@@ -1,7 +1,6 @@
 -- `note` meets its contract: refused with 7, or the log's own note.
 -- Assumes nothing.
-use Rattle.std.proofs.Common.{sym, ◌∙◌, rules}
-use borrow.Author.Tests.{not-true, not-false}
+use Rattle.std.proofs.Common.{sym, ◌∙◌}
 use Rattle.places.specs.Calls.{note_in}
 use Rattle.places.specs.Views.{view}
 use Rattle.rules.specs.Calls as call

@@ -1,6 +1,6 @@
 -- `of_fabric` meets its contract: each return is a case of the definition.
 -- Assumes nothing.
-use Rattle.std.proofs.Common.{rules, eq-eqb, ne_eqb}
+use Rattle.std.proofs.Common.{eq-eqb, ne_eqb}
 use Rattle.table.proofs.of_fabric.Goals as goal
 
 pub returns-then-fabric-eq0 : goal.returns-then-fabric-eq0

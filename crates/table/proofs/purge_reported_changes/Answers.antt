@@ -1,7 +1,6 @@
 -- `purge_reported_changes` meets its contract: refused with 7, or what `purged` ensures.
 -- Assumes nothing.
-use Rattle.std.proofs.Common.{sym, ◌∙◌, arith, rules}
-use borrow.Author.Tests.{not-true, not-false}
+use Rattle.std.proofs.Common.{sym, ◌∙◌, arith}
 use Rattle.places.specs.Calls.{purge_in}
 use Rattle.places.specs.Views.{view}
 use Rattle.rules.specs.Calls as call

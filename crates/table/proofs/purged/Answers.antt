@@ -1,6 +1,6 @@
 -- `purged` meets its contract: each return is a case of the definition, with the log's own purge or emptying.
 -- Assumes nothing.
-use Rattle.std.proofs.Common.{rules, le-ltb, lt-ltb}
+use Rattle.std.proofs.Common.{le-ltb, lt-ltb}
 use Rattle.places.specs.Calls.{purged_table}
 use Rattle.table.proofs.purged.Goals as goal
 

@@ -1,7 +1,6 @@
 -- `remove` meets its contract: the tests are the objections, in their order; scans tell what is removed and cancelled.
 -- Assumes nothing.
-use Rattle.std.proofs.Common.{◌≡◌, ◌||◌, [], length, sym, ap, ◌∙◌, arith, rules}
-use borrow.Author.Tests.{not-true, not-false}
+use Rattle.std.proofs.Common.{◌≡◌, ◌||◌, [], length, sym, ap, ◌∙◌, arith}
 use Rattle.refusal.specs.declared.Refusal.TheVariants.{BadArgument}
 use Rattle.places.specs.Calls.{remove_in}
 use Rattle.places.specs.Views.{view}
@@ -11,7 +10,6 @@ use Rattle.rules.specs.Calls as call
 use Rattle.places.proofs.Refusing.{kept_counts, past_kept, unkept}
 use Rattle.places.proofs.Finding.{stored_there}
 use Rattle.rules.proofs.Clauses.{remove_objects, first_holds, first_passed, first_none}
-use Rattle.lists.proofs.Arrays.{full}
 use Rattle.table.proofs.remove.Goals as goal
 use Rattle.table.proofs.remove.Goals.{Start}
 

@@ -1,7 +1,6 @@
 -- `report` meets its contract: refused with 7, refused with 3 where the scan of the open ones finds a report, or `hand_out`'s.
 -- Assumes nothing.
-use Rattle.std.proofs.Common.{◌≡◌, [], length, sym, ap, ◌∙◌, arith, rules, le-ltb, lt-ltb}
-use borrow.Author.Tests.{not-true, not-false}
+use Rattle.std.proofs.Common.{◌≡◌, [], length, sym, ap, ◌∙◌, arith, le-ltb, lt-ltb}
 use Rattle.refusal.specs.declared.Refusal.TheVariants.{ReportOpen}
 use Rattle.places.specs.Calls.{report_in}
 use Rattle.places.specs.Views.{view}
@@ -11,7 +10,6 @@ use Rattle.rules.specs.Calls as call
 use Rattle.places.proofs.Refusing.{kept_counts, kept_log, past_kept, unkept}
 use Rattle.places.proofs.Finding.{open_there}
 use Rattle.rules.proofs.Clauses.{report_objects, report_open_is, first_holds, first_passed, first_none}
-use Rattle.lists.proofs.Arrays.{full}
 use Rattle.table.proofs.report.Goals as goal
 use Rattle.table.proofs.report.Goals.{Start}
 

@@ -1,7 +1,6 @@
 -- `should_report_attr` meets its contract: the tests are the objections, in their order, and the scan finds the open one.
 -- Assumes nothing.
-use Rattle.std.proofs.Common.{◌≡◌, [], length, sym, ap, ◌∙◌, arith, rules}
-use borrow.Author.Tests.{not-true, not-false}
+use Rattle.std.proofs.Common.{◌≡◌, [], length, sym, ap, ◌∙◌, arith}
 use Rattle.refusal.specs.declared.Refusal.TheVariants.{NotOpen}
 use Rattle.places.specs.declared.Table.{Table}
 use Rattle.places.specs.Calls.{open_at, attribute_at}
@@ -13,7 +12,6 @@ use Rattle.places.proofs.Refusing.{kept_counts, kept_log, past_kept, unkept}
 use Rattle.changes.proofs.Answering.{path_answer}
 use Rattle.places.proofs.Finding.{none_open, one_open}
 use Rattle.rules.proofs.Clauses.{attribute_objects, first_holds, first_passed, first_none}
-use Rattle.lists.proofs.Arrays.{full}
 use Rattle.table.proofs.should_report_attr.Goals as goal
 use Rattle.table.proofs.should_report_attr.Goals.{Start}
 

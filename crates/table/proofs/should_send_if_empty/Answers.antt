@@ -1,7 +1,6 @@
 -- `should_send_if_empty` meets its contract: the tests are the objections, in their order, and the scan finds the open one.
 -- Assumes nothing.
-use Rattle.std.proofs.Common.{◌≡◌, [], length, sym, ap, ◌∙◌, arith, rules}
-use borrow.Author.Tests.{not-true, not-false}
+use Rattle.std.proofs.Common.{◌≡◌, [], length, sym, ap, ◌∙◌, arith}
 use Rattle.refusal.specs.declared.Refusal.TheVariants.{NotOpen}
 use Rattle.places.specs.declared.Table.{Table}
 use Rattle.answers.specs.declared.Told.TheVariants as told
@@ -13,7 +12,6 @@ use Rattle.rules.specs.Calls as call
 use Rattle.places.proofs.Refusing.{kept_counts, past_kept, unkept}
 use Rattle.places.proofs.Finding.{none_open, one_open}
 use Rattle.rules.proofs.Clauses.{send_objects, first_holds, first_passed, first_none}
-use Rattle.lists.proofs.Arrays.{full}
 use Rattle.table.proofs.should_send_if_empty.Goals as goal
 use Rattle.table.proofs.should_send_if_empty.Goals.{Start}
 

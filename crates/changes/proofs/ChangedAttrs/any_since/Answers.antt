@@ -1,6 +1,6 @@
 -- `any_since` meets its contract: the entries tell whether one is newer.
 -- Assumes nothing.
-use Rattle.std.proofs.Common.{sym, ap, ◌∙◌, rules}
+use Rattle.std.proofs.Common.{sym, ap, ◌∙◌}
 use Rattle.answers.specs.declared.Told.TheVariants as told
 use Rattle.changes.specs.Logs.{any_told}
 use Rattle.changes.proofs.ChangedAttrs.any_since.Goals as goal

@@ -1,6 +1,6 @@
 -- `clear` meets its contract: the test is the definition's.
 -- Assumes nothing.
-use Rattle.std.proofs.Common.{sym, ◌∙◌, rules}
+use Rattle.std.proofs.Common.{sym, ◌∙◌}
 use Rattle.changes.specs.Logs.{cleared}
 use Rattle.changes.proofs.ChangedAttrs.clear.Goals as goal
 

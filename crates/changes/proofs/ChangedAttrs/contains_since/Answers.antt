@@ -1,6 +1,6 @@
 -- `contains_since` meets its contract: the entries tell whether one is newer and matches.
 -- Assumes nothing.
-use Rattle.std.proofs.Common.{sym, ap, ◌∙◌, rules}
+use Rattle.std.proofs.Common.{sym, ap, ◌∙◌}
 use Rattle.answers.specs.declared.Told.TheVariants as told
 use Rattle.changes.specs.Logs.{path_told}
 use Rattle.changes.proofs.ChangedAttrs.contains_since.Goals as goal

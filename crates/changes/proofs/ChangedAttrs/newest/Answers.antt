@@ -1,6 +1,6 @@
 -- `newest` meets its contract: the entries tell their greatest identity.
 -- Assumes nothing.
-use Rattle.std.proofs.Common.{sym, ap, ◌∙◌, rules}
+use Rattle.std.proofs.Common.{sym, ap, ◌∙◌}
 use Rattle.answers.specs.declared.Mark.TheVariants as mark
 use Rattle.changes.specs.Logs.{newest_mark}
 use Rattle.changes.proofs.ChangedAttrs.newest.Goals as goal

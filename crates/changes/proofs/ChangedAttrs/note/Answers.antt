@@ -1,6 +1,6 @@
 -- `note` meets its contract: `enter` gives the entries, `next_identity` the identity after.
 -- Assumes nothing.
-use Rattle.std.proofs.Common.{sym, ◌∙◌, rules}
+use Rattle.std.proofs.Common.{sym, ◌∙◌}
 use Rattle.changes.specs.Logs.{holding, noted}
 use Rattle.changes.proofs.ChangedAttrs.note.Goals as goal
 

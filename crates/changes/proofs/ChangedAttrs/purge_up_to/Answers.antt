@@ -1,6 +1,6 @@
 -- `purge_up_to` meets its contract: the tests are the definition's, and `without` gives the entries.
 -- Assumes nothing.
-use Rattle.std.proofs.Common.{sym, ◌∙◌, rules, eq-eqb, ne_eqb}
+use Rattle.std.proofs.Common.{sym, ◌∙◌, eq-eqb, ne_eqb}
 use Rattle.changes.specs.Logs.{holding, purged}
 use Rattle.changes.proofs.ChangedAttrs.purge_up_to.Goals as goal
 

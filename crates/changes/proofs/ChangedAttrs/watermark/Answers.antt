@@ -1,6 +1,6 @@
 -- `watermark` meets its contract: of a next identity that isn't 0 the wrapping difference is the plain one.
 -- Assumes nothing.
-use Rattle.std.proofs.Common.{◌≡◌, ◌<◌, true, sym, ap, ◌∙◌, arith, rules}
+use Rattle.std.proofs.Common.{◌≡◌, ◌<◌, true, sym, ap, ◌∙◌, arith}
 use lib.Arith.{lt_of_le-ne}
 use Rattle.answers.specs.declared.Mark.TheVariants as mark
 use Rattle.changes.specs.Logs.{kept, marked}

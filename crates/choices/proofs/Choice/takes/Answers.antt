@@ -1,7 +1,6 @@
 -- `takes` meets its contract: each arm is a case of the definition.
 -- Assumes nothing.
 use borrow.Author.Tests.{eq-eqb, ne_eqb}
-use borrow.Author.Rules.{rules}
 use Rattle.choices.specs.Choices.{chosen}
 use Rattle.choices.proofs.Choice.takes.Goals as goal
 

@@ -1,6 +1,6 @@
 -- `admits` meets its contract: the tests are the objections, in their order.
 -- Assumes nothing.
-use Rattle.std.proofs.Common.{sym, ap, ◌∙◌, rules, eq-eqb, ne_eqb, le-leb}
+use Rattle.std.proofs.Common.{sym, ap, ◌∙◌, eq-eqb, ne_eqb, le-leb}
 use borrow.Author.Tests.{lt-leb}
 use Rattle.refusal.specs.declared.Refusal.TheVariants.{BadArgument, Full, IdLive}
 use Rattle.table.specs.Scans.{as_verdict}

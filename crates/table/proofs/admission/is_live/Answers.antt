@@ -1,9 +1,8 @@
 -- `is_live` meets its contract: a scan stops within its region exactly where one has the id.
 -- Assumes nothing.
-use Rattle.std.proofs.Common.{◌≡◌, length, sym, ◌∙◌, arith, rules, le-ltb, lt-ltb}
+use Rattle.std.proofs.Common.{◌≡◌, length, sym, ◌∙◌, arith, le-ltb, lt-ltb}
 use Rattle.rules.specs.States.{has_id}
 use Rattle.places.proofs.Finding.{stored_there, open_there}
-use Rattle.lists.proofs.Arrays.{full}
 use Rattle.table.proofs.admission.is_live.Goals as goal
 use Rattle.table.proofs.admission.is_live.Goals.{Start}
 

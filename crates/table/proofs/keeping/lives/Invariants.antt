@@ -1,12 +1,8 @@
 -- `lives` meets its contract. The invariant: the ids so far are those of the live ones, and an orphan or an open report was met or is still to come.
 -- Assumes nothing.
-use Rattle.std.proofs.Common.{◌≡◌, ◌+◌, ◌-◌, ◌≤◌, ◌&&◌, leb, length, get_or, refl, ap, arith, length-take-le, rules}
-use Rattle.places.specs.Views.{stored_of, opens_of, place_of}
-use Rattle.subscription.specs.Life.{blank}
-use Rattle.table.proofs.Steps.{place_below, Passing, pass_begin, pass_step, pass_end, live_length, live_at}
-use Rattle.lists.specs.Search.{one}
-use Rattle.lists.proofs.Arrays.{full}
-use Rattle.lists.proofs.Counts.{one_most}
+use Rattle.std.proofs.Common.{◌≡◌, ◌+◌, ◌-◌, ◌≤◌, length}
+use Rattle.places.specs.Views.{stored_of, opens_of}
+use Rattle.table.proofs.Steps.{Passing}
 use Rattle.table.proofs.keeping.lives.Given as goal
 
 abbrev pub invariant-loop-i : goal.invariant-loop-i

@@ -1,6 +1,6 @@
 -- `place_of` meets its contract: the test is the definition's.
 -- Assumes nothing.
-use Rattle.std.proofs.Common.{rules, le-ltb, lt-ltb}
+use Rattle.std.proofs.Common.{le-ltb, lt-ltb}
 use Rattle.table.proofs.keeping.place_of.Goals as goal
 
 pub returns-then-i-stored : goal.returns-then-i-stored

@@ -1,9 +1,7 @@
 -- `emptied` meets its contract. The invariant: the places before i are blank, and the rest is as it was.
 -- Assumes nothing.
-use Rattle.std.proofs.Common.{◌≡◌, ◌-◌, ◌≤◌, ◌++◌, length, drop, replicate, refl, arith, rules}
-use Rattle.subscription.specs.Life.{blank}
-use Rattle.table.proofs.Sweeping.{SameBut, same_on, blank_more, empty_end}
-use Rattle.lists.proofs.Arrays.{full}
+use Rattle.std.proofs.Common.{refl, arith, rules}
+use Rattle.table.proofs.Sweeping.{same_on, blank_more, empty_end}
 use Rattle.table.proofs.moves.emptied.Goals as goal
 
 pub loop-i-init : goal.loop-i-init

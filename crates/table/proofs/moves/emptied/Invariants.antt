@@ -1,9 +1,8 @@
 -- `emptied` meets its contract. The invariant: the places before i are blank, and the rest is as it was.
 -- Assumes nothing.
-use Rattle.std.proofs.Common.{◌≡◌, ◌-◌, ◌≤◌, ◌++◌, length, drop, replicate, refl, arith, rules}
+use Rattle.std.proofs.Common.{◌≡◌, ◌-◌, ◌≤◌, ◌++◌, length, drop, replicate}
 use Rattle.subscription.specs.Life.{blank}
-use Rattle.table.proofs.Sweeping.{SameBut, same_on, blank_more, empty_end}
-use Rattle.lists.proofs.Arrays.{full}
+use Rattle.table.proofs.Sweeping.{SameBut}
 use Rattle.table.proofs.moves.emptied.Given as goal
 
 abbrev pub invariant-loop-i : goal.invariant-loop-i

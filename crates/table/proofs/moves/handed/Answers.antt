@@ -1,6 +1,5 @@
 -- `handed` meets its contract: three stores, one stored one fewer and one open one more.
 -- Assumes nothing.
-use Rattle.std.proofs.Common.{rules}
 use Rattle.places.specs.Calls.{handed_out}
 use Rattle.places.specs.Moves.{taken_out, opened_up}
 use Rattle.table.proofs.moves.handed.Goals as goal

@@ -1,6 +1,5 @@
 -- `is_cancelled` meets its contract: each return is a case of the definition.
 -- Assumes nothing.
-use Rattle.std.proofs.Common.{rules}
 use Rattle.table.proofs.moves.is_cancelled.Goals as goal
 
 pub returns-then-reporting : goal.returns-then-reporting

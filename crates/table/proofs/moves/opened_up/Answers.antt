@@ -1,6 +1,6 @@
 -- `opened_up` meets its contract: a store at the far end, and one open one more.
 -- Assumes nothing.
-use Rattle.std.proofs.Common.{refl, rules}
+use Rattle.std.proofs.Common.{refl}
 use Rattle.places.specs.Moves.{opened_up}
 use Rattle.table.proofs.moves.opened_up.Goals as goal
 

@@ -1,6 +1,6 @@
 -- `stays` meets its contract by what `is_cancelled` and `is_kept` ensure.
 -- Assumes nothing.
-use Rattle.std.proofs.Common.{sym, ◌∙◌, rules}
+use Rattle.std.proofs.Common.{sym, ◌∙◌}
 use Rattle.table.proofs.moves.stays.Goals as goal
 
 pub returns-then-is_cancelled : goal.returns-then-is_cancelled

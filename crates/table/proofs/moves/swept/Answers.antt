@@ -1,10 +1,8 @@
 -- `swept` meets its contract. The invariant: what the sweep leaves of all is what it leaves from i on of the places as they are now.
 -- Assumes nothing.
-use Rattle.std.proofs.Common.{◌≡◌, ◌-◌, ◌≤◌, length, sym, refl, ◌∙◌, arith, length-set, rules}
-use Rattle.places.specs.Moves.{swept_from}
+use Rattle.std.proofs.Common.{sym, refl, ◌∙◌, arith, length-set, rules}
 use Rattle.choices.specs.Choices.{chosen}
-use Rattle.table.proofs.Sweeping.{SameBut, same_on, sweep_start, sweep_out, sweep_kept, sweep_end}
-use Rattle.lists.proofs.Arrays.{full}
+use Rattle.table.proofs.Sweeping.{same_on, sweep_start, sweep_out, sweep_kept, sweep_end}
 use Rattle.table.proofs.moves.swept.Goals as goal
 
 pub loop-i-init : goal.loop-i-init

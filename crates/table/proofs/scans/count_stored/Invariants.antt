@@ -1,12 +1,10 @@
 -- `count_stored` meets its contract. The invariant: what was counted and what there is from i on are together what there is.
 -- Assumes nothing.
-use Rattle.std.proofs.Common.{◌≡◌, ◌+◌, ◌-◌, ◌≤◌, length, sym, ap, ◌∙◌, arith, rules}
+use Rattle.std.proofs.Common.{◌≡◌, ◌+◌, ◌-◌, ◌≤◌, length}
 use lib.Seq.{slice}
 use Rattle.table.specs.Scans.{passes}
 use Rattle.places.specs.Views.{stored_of}
-use Rattle.subscription.specs.Life.{blank}
-use Rattle.lists.specs.Search.{one, count}
-use Rattle.lists.proofs.Arrays.{full, count_next, count_done}
+use Rattle.lists.specs.Search.{count}
 use Rattle.table.proofs.scans.count_stored.Given as goal
 
 abbrev pub invariant-loop-i : goal.invariant-loop-i

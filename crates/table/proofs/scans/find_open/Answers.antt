@@ -1,12 +1,9 @@
 -- `find_open` meets its contract. The invariant: the first of all open ones is that of those from i on.
 -- Assumes nothing.
-use Rattle.std.proofs.Common.{◌≡◌, ◌+◌, ◌-◌, ◌≤◌, length, sym, ◌∙◌, arith, rules}
-use lib.Seq.{slice}
+use Rattle.std.proofs.Common.{◌-◌, sym, ◌∙◌, arith, rules}
 use Rattle.table.specs.Scans.{passes}
-use Rattle.places.specs.Views.{opens_of}
 use Rattle.subscription.specs.Life.{blank}
-use Rattle.lists.specs.Search.{first}
-use Rattle.lists.proofs.Arrays.{full, slice_rest, first_here, first_next, first_done}
+use Rattle.lists.proofs.Arrays.{slice_rest, first_here, first_next, first_done}
 use Rattle.table.proofs.scans.find_open.Goals as goal
 
 pub loop-i-init : goal.loop-i-init

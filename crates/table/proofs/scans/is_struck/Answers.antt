@@ -1,6 +1,6 @@
 -- `is_struck` meets its contract: each return is a case of the definition.
 -- Assumes nothing.
-use Rattle.std.proofs.Common.{◌&&◌, sym, ap, ◌∙◌, rules}
+use Rattle.std.proofs.Common.{◌&&◌, sym, ap, ◌∙◌}
 use Rattle.places.specs.Tests.{struck}
 use Rattle.choices.specs.Choices.{chosen}
 use Rattle.table.proofs.scans.is_struck.Goals as goal

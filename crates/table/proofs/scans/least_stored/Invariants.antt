@@ -1,13 +1,10 @@
 -- `least_stored` meets its contract. The invariant: the least is that so far or one from i on.
 -- Assumes nothing.
-use Rattle.std.proofs.Common.{◌≡◌, ◌-◌, ◌≤◌, min, length, arith, rules}
+use Rattle.std.proofs.Common.{◌≡◌, ◌-◌, ◌≤◌, min, length}
 use lib.Seq.{slice}
 use Rattle.table.specs.Scans.{measured}
 use Rattle.places.specs.Views.{stored_of}
-use Rattle.subscription.specs.Life.{blank}
 use Rattle.lists.specs.Search.{least_by}
-use Rattle.lists.proofs.Arrays.{full, least_next, least_done}
-use Rattle.lists.proofs.Numbers.{least_bound}
 use Rattle.table.proofs.scans.least_stored.Given as goal
 
 abbrev pub invariant-loop-i : goal.invariant-loop-i

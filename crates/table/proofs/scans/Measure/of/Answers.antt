@@ -1,6 +1,5 @@
 -- `of` meets its contract: each arm is the measure that the rule stands for.
 -- Assumes nothing.
-use Rattle.std.proofs.Common.{rules}
 use Rattle.places.specs.Tests.{next_by, icd_due, seen_of}
 use Rattle.table.proofs.scans.Measure.of.Goals as goal
 

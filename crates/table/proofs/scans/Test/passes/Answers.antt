@@ -1,6 +1,5 @@
 -- `passes` meets its contract: each arm is the test that the rule stands for.
 -- Assumes nothing.
-use Rattle.std.proofs.Common.{rules}
 use Rattle.places.specs.Tests.{ready_by, of_fabric}
 use Rattle.rules.specs.States.{has_id}
 use Rattle.table.proofs.scans.Test.passes.Goals as goal
