@@ -1,7 +1,6 @@
 -- `added` meets its contract: the call's table and answer are passed on.
 -- Assumes nothing.
 use mathlib.Core.Path.{ap, ◌∙◌}
-use borrow.Author.Rules.{rules}
 use Rattle.places.specs.Calls.{add_to}
 use Rattle.places.specs.declared.Admitted.{Admitted}
 use Rattle.answering.specs.Answers.{added_in}

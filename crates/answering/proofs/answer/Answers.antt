@@ -1,7 +1,6 @@
 -- `answer` meets its contract: in each arm the kind of the line is known, and its function answers what the definition says.
 -- Assumes nothing.
 use mathlib.Core.Path.{◌∙◌}
-use borrow.Author.Rules.{rules}
 use Rattle.answering.specs.Answers.{answer_in}
 use Rattle.answering.proofs.answer.Goals as goal
 

@@ -1,7 +1,6 @@
 -- `asked` meets its contract: the answer is passed on, and the table stays.
 -- Assumes nothing.
 use mathlib.Core.Path.{ap, ◌∙◌}
-use borrow.Author.Rules.{rules}
 use Rattle.answering.specs.Answers.{answered}
 use Rattle.answering.specs.Replies.{told_reply}
 use Rattle.answering.proofs.asked.Goals as goal

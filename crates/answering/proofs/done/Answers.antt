@@ -1,6 +1,5 @@
 -- `done` meets its contract: the call's table and answer are passed on.
 -- Assumes nothing.
-use borrow.Author.Rules.{rules}
 use Rattle.places.specs.declared.Completed.{Completed}
 use Rattle.answering.specs.Answers.{done_in}
 use Rattle.answering.specs.Replies.{completion_reply}

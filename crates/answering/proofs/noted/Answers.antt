@@ -1,6 +1,5 @@
 -- `noted` meets its contract: the call's table and answer are passed on.
 -- Assumes nothing.
-use borrow.Author.Rules.{rules}
 use Rattle.places.specs.declared.TableNoted.{TableNoted}
 use Rattle.answering.specs.Answers.{noted_in}
 use Rattle.answering.specs.Replies.{hearing_reply}

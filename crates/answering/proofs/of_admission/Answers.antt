@@ -1,7 +1,6 @@
 -- `of_admission` meets its contract: by the answer's cases.
 -- Assumes nothing.
 use mathlib.Core.Path.{◌∙◌}
-use borrow.Author.Rules.{rules}
 use Rattle.answering.proofs.of_admission.Goals as goal
 
 pub returns-in-Id : goal.returns-in-Id

@@ -1,7 +1,6 @@
 -- `of_completion` meets its contract: by the answer's cases.
 -- Assumes nothing.
 use mathlib.Core.Path.{ap, ◌∙◌}
-use borrow.Author.Rules.{rules}
 use Rattle.answering.specs.Replies.{told}
 use Rattle.answering.proofs.of_completion.Goals as goal
 

@@ -1,7 +1,6 @@
 -- `of_hand_out` meets its contract: by the answer's cases.
 -- Assumes nothing.
 use mathlib.Core.Path.{◌∙◌}
-use borrow.Author.Rules.{rules}
 use Rattle.answering.proofs.of_hand_out.Goals as goal
 
 pub returns-in-To : goal.returns-in-To

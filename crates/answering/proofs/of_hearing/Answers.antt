@@ -1,7 +1,6 @@
 -- `of_hearing` meets its contract: by the answer's cases.
 -- Assumes nothing.
 use mathlib.Core.Path.{◌∙◌}
-use borrow.Author.Rules.{rules}
 use Rattle.answering.proofs.of_hearing.Goals as goal
 
 pub returns-in-Entered : goal.returns-in-Entered

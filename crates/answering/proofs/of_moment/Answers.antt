@@ -1,7 +1,6 @@
 -- `of_moment` meets its contract: by the answer's cases.
 -- Assumes nothing.
 use mathlib.Core.Path.{◌∙◌}
-use borrow.Author.Rules.{rules}
 use Rattle.answering.proofs.of_moment.Goals as goal
 
 pub returns-in-At : goal.returns-in-At

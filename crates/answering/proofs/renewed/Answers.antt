@@ -1,6 +1,5 @@
 -- `renewed` meets its contract: by what the new table answered.
 -- Assumes nothing.
-use borrow.Author.Rules.{rules}
 use Rattle.answering.proofs.Passing.{renewed_made, renewed_refused}
 use Rattle.answering.proofs.renewed.Goals as goal
 

@@ -3,7 +3,6 @@
 use mathlib.Core.Bool.{Bool}
 use mathlib.Core.Path.{ap, ◌∙◌}
 use Prim.Native.Nat.{ℕ}
-use borrow.Author.Rules.{rules}
 use Rattle.answering.specs.Answers.{reported_in}
 use Rattle.answering.specs.Replies.{hand_out_reply}
 use Rattle.subscription.specs.declared.Settings.{Settings}

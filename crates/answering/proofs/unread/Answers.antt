@@ -1,7 +1,6 @@
 -- `unread` meets its contract: the refusal is passed on, and the table stays.
 -- Assumes nothing.
 use mathlib.Core.Path.{ap}
-use borrow.Author.Rules.{rules}
 use Rattle.answering.specs.Answers.{answered}
 use Rattle.answering.proofs.unread.Goals as goal
 

@@ -1,7 +1,6 @@
 -- `waking` meets its contract: the answer is passed on, and the table stays.
 -- Assumes nothing.
 use mathlib.Core.Path.{ap, ◌∙◌}
-use borrow.Author.Rules.{rules}
 use Rattle.answering.specs.Answers.{answered}
 use Rattle.answering.specs.Replies.{moment_reply}
 use Rattle.places.specs.Calls.{next_at}

@@ -1,8 +1,6 @@
 -- `finish` meets its contract: by whether closing found a last line.
 -- Assumes nothing.
 use mathlib.Core.Path.{sym, ◌∙◌}
-use borrow.Author.Rules.{rules}
-use borrow.Author.Tests.{not-true, not-false}
 use Rattle.tracing.proofs.Scanning.{finish_none, finish_answered}
 use Rattle.tracing.proofs.finish.Goals as goal
 

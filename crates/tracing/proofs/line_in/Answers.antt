@@ -1,7 +1,6 @@
 -- `line_in` meets its contract: by what was found.
 -- Assumes nothing.
 use mathlib.Core.Path.{◌∙◌}
-use borrow.Author.Rules.{rules}
 use Rattle.tracing.proofs.line_in.Goals as goal
 
 pub returns-in-Whole : goal.returns-in-Whole

@@ -3,15 +3,14 @@
 -- Assumes nothing.
 use mathlib.Core.Bool.{true}
 use mathlib.Core.Path.{◌≡◌, refl, sym, ap, ◌∙◌}
-use Prim.Native.Nat.{◌+◌, ◌-◌, ◌≤◌}
+use Prim.Native.Nat.{◌+◌, ◌≤◌}
 use native.Mathlib.Omega.{arith}
 use lib.Dec.{leb}
-use lib.ListN.{length, drop, drop_of_length-le}
+use lib.ListN.{length, drop_of_length-le}
 use borrow.Author.Rules.{rules}
-use borrow.Author.Tests.{not-true, not-false}
 use Rattle.printing.specs.Answers.{answer_room}
 use Rattle.tracing.specs.Runs.{run_from}
-use Rattle.tracing.proofs.Scanning.{standing, stopped_at, run_full, run_done, turn_within, turn_moves, turn_none, turn_answered}
+use Rattle.tracing.proofs.Scanning.{stopped_at, run_full, run_done, turn_within, turn_moves, turn_none, turn_answered}
 use Rattle.tracing.proofs.run.Goals as goal
 use Rattle.tracing.proofs.run.Goals.{After-scan-k}
 

@@ -1,17 +1,11 @@
 -- `run` meets its contract. What is left of the chunk is run as the whole is, from where the run stands: each turn is one scan, by the laws of
 -- Scanning.
 -- Assumes nothing.
-use mathlib.Core.Bool.{true}
-use mathlib.Core.Path.{◌≡◌, refl, sym, ap, ◌∙◌}
-use Prim.Native.Nat.{◌+◌, ◌-◌, ◌≤◌}
-use native.Mathlib.Omega.{arith}
-use lib.Dec.{leb}
-use lib.ListN.{length, drop, drop_of_length-le}
-use borrow.Author.Rules.{rules}
-use borrow.Author.Tests.{not-true, not-false}
-use Rattle.printing.specs.Answers.{answer_room}
+use mathlib.Core.Path.{◌≡◌}
+use Prim.Native.Nat.{◌-◌, ◌≤◌}
+use lib.ListN.{length, drop}
 use Rattle.tracing.specs.Runs.{run_from}
-use Rattle.tracing.proofs.Scanning.{standing, stopped_at, run_full, run_done, turn_within, turn_moves, turn_none, turn_answered}
+use Rattle.tracing.proofs.Scanning.{standing}
 use Rattle.tracing.proofs.run.Given as goal
 
 abbrev pub invariant-loop-used : goal.invariant-loop-used

@@ -1,7 +1,6 @@
 -- `start` meets its contract: a new table of 80 and a reading at its begin.
 -- Assumes nothing.
 use mathlib.Core.Path.{ap, ◌∙◌}
-use borrow.Author.Rules.{rules}
 use Rattle.places.specs.declared.Settled.{Settled}
 use Rattle.tracing.specs.Runs.{session_of, start_of}
 use Rattle.tracing.proofs.start.Goals as goal
