@@ -67,7 +67,8 @@ fn main(rt: HostRuntime) -> io::Result<()> {
     Ok(())
 }
 
-// One read, and the lines that end in it. A failed read ends the program, and the line that it cut short is not answered.
+// One read, and the lines that end in it. A failed read ends the program: the answers gathered so far are written, and the line that it
+// cut short is not answered.
 fn turn(
     input: &mut impl Read,
     output: &mut impl Write,

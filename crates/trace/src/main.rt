@@ -1,8 +1,8 @@
 // Reads trace lines from standard input and writes an answer for each to standard output: document 01, "Trace lines".
 //
 // It reads and writes large chunks and keeps no more of a line than 96 bytes. It ends at the input's end, behind line 1,000,000,
-// or at the first read or write that fails; then no more is written. What is written of the bytes is promised by crate tracing;
-// here is only who reads and who writes.
+// or at the first read or write that fails; then no more is written, and the failure is told on standard error. What is written of
+// the bytes is promised by crate tracing; here is only who reads and who writes.
 #![tactic(auto)]
 
 use cutting::{MOST_BYTES, MOST_LINES};
