@@ -29,7 +29,7 @@ use Rattle.heard.specs.Demand as demand
 use Rattle.places.specs.Views.{view, fresh_table}
 use Rattle.places.specs.Tidiness.{Whole}
 use Rattle.demands.specs.Histories.{reply_to, table_after}
-use Rattle.demands.specs.Playing.{Played, also, turned, reported, play}
+use Rattle.demands.specs.Playing.{Played, turned, reported, play}
 use Rattle.demands.specs.Unheard.{come, noted, UnheardStaysYes, NobodyTwice, RoundHears, RoundCallPlays}
 use Rattle.rules.specs.Calls as call
 use Rattle.lists.proofs.Bools.{split}

@@ -9,7 +9,7 @@ use Prim.Native.Nat.{ℕ, ◌≤◌}
 use native.Mathlib.Omega.{arith}
 use borrow.Author.Tests.{eqb-true, eq-eqb, not-true, not-false}
 use lib.Dec.{eqb}
-use Rattle.lists.specs.Search.{one, some, count, first_by}
+use Rattle.lists.specs.Search.{some, count, first_by}
 use Rattle.lists.proofs.Bools.{split, and_both, or_left, or_right}
 use Rattle.lists.proofs.Counts.{none_one, count_nil, count_cons, count_some, some_cons, in_front}
 use Rattle.changes.specs.Reach.{Tidy}

@@ -9,7 +9,7 @@ use Prim.Native.Nat.{ℕ, ◌-◌}
 use native.Mathlib.Omega.{arith}
 use borrow.Author.Tests.{ltb-false, not-false}
 use lib.Dec.{eqb}
-use Rattle.lists.specs.Search.{one, some, count, least_by}
+use Rattle.lists.specs.Search.{some, count, least_by}
 use Rattle.lists.proofs.Bools.{split}
 use Rattle.lists.proofs.Counts.{none_one, count_cons}
 use Rattle.lists.proofs.Numbers.{least_lower}
