@@ -68,9 +68,9 @@ module _ (t : Table) (long : length t.places ≡ 80) (h : kept t ≡ true) where
 
   -- the least seen watermark of some stored ones
   least_same : 0 < t.stored → least_by seen_of (get_or t.places 0 blank).seen (stored_of t) ≡ least_seen (stored_of t)
-  least_same Some-Stored =
+  least_same some_stored =
       let m = stored_many in
-      ap (λ x. least_by seen_of x.seen (stored_of t)) (sym (get_or-take t.stored t.places 0 blank Some-Stored))
+      ap (λ x. least_by seen_of x.seen (stored_of t)) (sym (get_or-take t.stored t.places 0 blank some_stored))
       ∙ seen_same (stored_of t) (omega arith)
 
   pub purge_agrees : settled_says (purge_in t) ≡ step call.purge (view t)

@@ -1,16 +1,12 @@
 -- `round` meets its contract: refused with 7, for its slices or for an open report, or the turns that `serve` makes.
 -- Assumes nothing.
-use mathlib.Core.Path.{◌≡◌, sym, ◌∙◌}
-use lib.ListN.{length}
+use mathlib.Core.Path.{sym, ◌∙◌}
+use borrow.Author.Rules.{rules}
 use Rattle.round.specs.Rounds.{round_of}
 use Rattle.rules.specs.Calls as call
 use Rattle.round.proofs.Refusing.{same_lengths, shut_is, refused_slices, refused_shut, not_refused}
 use Rattle.places.proofs.Refusing.{unkept}
 use Rattle.round.proofs.round.Goals as goal
-use Rattle.round.proofs.round.Goals.{Start}
-
-long : (c : Start) → length c.args.table.places ≡ 80
-long c = c.well_formed.0.1.1.0.1.0.1
 
 pub returns-then-not-is_kept : goal.returns-then-not-is_kept
 unfolding round_of
@@ -31,7 +27,7 @@ returns-then-is_shut c =
     let a = c.args in
     let k = sym c.is_kept.ensures ∙ c.if-not-is_kept.false in
     let good = sym c.are_bad.ensures ∙ c.if-are_bad.false in
-    let shut = sym (shut_is a.table k (long (goal.at.returns-then-is_shut c).Start) a.at) ∙ sym c.is_shut.ensures ∙ c.if-is_shut.true in
+    let shut = sym (shut_is a.table k (search rules) a.at) ∙ sym c.is_shut.ensures ∙ c.if-is_shut.true in
     rw (refused_shut a.table k a.at a.outcomes.now a.ids.now good shut, round_of, c.not_rounded-then-is_shut.ensures)
 
 pub serve-end-requires : goal.serve-end-requires
@@ -44,5 +40,5 @@ returns c =
     let a = c.args in
     let k = sym c.is_kept.ensures ∙ c.if-not-is_kept.false in
     let good = sym c.are_bad.ensures ∙ c.if-are_bad.false in
-    let free = sym (shut_is a.table k (long (goal.at.returns c).Start) a.at) ∙ sym c.is_shut.ensures ∙ c.if-is_shut.false in
+    let free = sym (shut_is a.table k (search rules) a.at) ∙ sym c.is_shut.ensures ∙ c.if-is_shut.false in
     rw (not_refused a.table k a.at a.outcomes.now a.ids.now good free, round_of, ← c.serve-end.ensures, c.is_silent.ensures)

@@ -1,6 +1,6 @@
 -- `clear` meets its contract: the tests are the objections, in their order, and a scan tells whether there is a report to cancel.
 -- Assumes nothing.
-use Rattle.std.proofs.Common.{◌≡◌, [], length, sym, ap, ◌∙◌, arith, le-ltb, lt-ltb}
+use Rattle.std.proofs.Common.{[], sym, ap, ◌∙◌, arith, le-ltb, lt-ltb, rules}
 use Rattle.refusal.specs.declared.Refusal.TheVariants.{PrimingOpen}
 use Rattle.places.specs.Calls.{clear_in}
 use Rattle.places.specs.Views.{view}
@@ -11,10 +11,6 @@ use Rattle.places.proofs.Refusing.{kept_counts, past_kept, unkept}
 use Rattle.places.proofs.Finding.{open_there}
 use Rattle.rules.proofs.Clauses.{clear_objects, first_holds, first_passed, first_none}
 use Rattle.table.proofs.clear.Goals as goal
-use Rattle.table.proofs.clear.Goals.{Start}
-
-long : (c : Start) → length c.args.table.places ≡ 80
-long c = c.well_formed.0.1.1.0.1.0.1
 
 pub returns-then-not-is_kept : goal.returns-then-not-is_kept
 unfolding clear_in
@@ -32,7 +28,7 @@ returns-then-find_open-lt80 c =
     let t = c.args.table in
     let k = sym c.is_kept.ensures ∙ c.if-not-is_kept.false in
     let b = kept_counts t k in
-    let there = sym (open_there t (long (goal.at.returns-then-find_open-lt80 c).Start) (omega arith) is_priming c.find_open.ensures) ∙ lt-ltb _ _ c.if-find_open-lt80.true in
+    let there = sym (open_there t (search rules) (omega arith) is_priming c.find_open.ensures) ∙ lt-ltb _ _ c.if-find_open-lt80.true in
     rw (past_kept t k call.clear ∙ ap first_of (clear_objects (view t)) ∙ first_holds PrimingOpen [] there, clear_in) c.not_woken-then-find_open-lt80.ensures
 
 pub find_open-cancels-requires : goal.find_open-cancels-requires
@@ -51,5 +47,5 @@ returns c =
     let t = c.args.table in
     let k = sym c.is_kept.ensures ∙ c.if-not-is_kept.false in
     let b = kept_counts t k in
-    let none = sym (open_there t (long (goal.at.returns c).Start) (omega arith) is_priming c.find_open.ensures) ∙ le-ltb _ _ c.if-find_open-lt80.false in
-    rw (past_kept t k call.clear ∙ ap first_of (clear_objects (view t)) ∙ first_passed PrimingOpen [] none ∙ first_none, ← open_there t (long (goal.at.returns c).Start) (omega arith) is_report c.find_open-cancels.ensures, ← c.emptied.ensures, ← c.reason_after.ensures, ← c.with_cancel.ensures, clear_in)
+    let none = sym (open_there t (search rules) (omega arith) is_priming c.find_open.ensures) ∙ le-ltb _ _ c.if-find_open-lt80.false in
+    rw (past_kept t k call.clear ∙ ap first_of (clear_objects (view t)) ∙ first_passed PrimingOpen [] none ∙ first_none, ← open_there t (search rules) (omega arith) is_report c.find_open-cancels.ensures, ← c.emptied.ensures, ← c.reason_after.ensures, ← c.with_cancel.ensures, clear_in)

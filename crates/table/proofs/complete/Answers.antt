@@ -1,6 +1,6 @@
 -- `complete` meets its contract: the tests are the objections, in their order, and the scan finds the open one.
 -- Assumes nothing.
-use Rattle.std.proofs.Common.{◌≡◌, [], length, sym, ap, ◌∙◌, arith, le-ltb, lt-ltb}
+use Rattle.std.proofs.Common.{[], sym, ap, ◌∙◌, arith, le-ltb, lt-ltb, rules}
 use Rattle.refusal.specs.declared.Refusal.TheVariants.{BadArgument, NotOpen}
 use Rattle.places.specs.Calls.{open_at, complete_in}
 use Rattle.places.specs.Views.{view}
@@ -11,10 +11,6 @@ use Rattle.places.proofs.Refusing.{kept_counts, past_kept, unkept}
 use Rattle.places.proofs.Finding.{none_open, one_open}
 use Rattle.rules.proofs.Clauses.{complete_objects, first_holds, first_passed, first_none}
 use Rattle.table.proofs.complete.Goals as goal
-use Rattle.table.proofs.complete.Goals.{Start}
-
-long : (c : Start) → length c.args.table.places ≡ 80
-long c = c.well_formed.0.1.1.0.1.0.1
 
 pub returns-then-not-is_kept : goal.returns-then-not-is_kept
 unfolding complete_in
@@ -41,7 +37,7 @@ returns-then-at-ge80 c =
     let t = a.table in
     let k = sym c.is_kept.ensures ∙ c.if-not-is_kept.false in
     let b = kept_counts t k in
-    let none = none_open t (long (goal.at.returns-then-at-ge80 c).Start) (omega arith) (has_id a.id) c.find_open-at.ensures c.if-at-ge80.true in
+    let none = none_open t (search rules) (omega arith) (has_id a.id) c.find_open-at.ensures c.if-at-ge80.true in
     rw (past_kept t k (call.complete a.id a.outcome) ∙ ap first_of (complete_objects (view t) a.id a.outcome) ∙ first_passed BadArgument _ (le-ltb _ _ c.if-outcome-gt-ABANDONED.false) ∙ first_holds NotOpen [] none, complete_in) c.not_completed-then-at-ge80.ensures
 
 pub ended-requires : goal.ended-requires
@@ -56,5 +52,5 @@ returns c =
     let t = a.table in
     let k = sym c.is_kept.ensures ∙ c.if-not-is_kept.false in
     let b = kept_counts t k in
-    let there = one_open t (long (goal.at.returns c).Start) (omega arith) (has_id a.id) c.find_open-at.ensures c.if-at-ge80.false in
+    let there = one_open t (search rules) (omega arith) (has_id a.id) c.find_open-at.ensures c.if-at-ge80.false in
     rw (past_kept t k (call.complete a.id a.outcome) ∙ ap first_of (complete_objects (view t) a.id a.outcome) ∙ first_passed BadArgument _ (le-ltb _ _ c.if-outcome-gt-ABANDONED.false) ∙ first_passed NotOpen [] there ∙ first_none, ← c.find_open-at.ensures, complete_in) c.ended.ensures

@@ -9,10 +9,6 @@ use Rattle.table.proofs.Inside.{not_within, counts_fit, within_kept}
 use Rattle.table.proofs.Steps.{live_length}
 use Rattle.lists.proofs.Maps.{distinct_map}
 use Rattle.table.proofs.is_kept.Goals as goal
-use Rattle.table.proofs.is_kept.Goals.{Start}
-
-long : (c : Start) → length c.args.table.places ≡ 80
-long c = c.well_formed.0.1.1.0.1.0.1
 
 -- the ids of the pass differ exactly where those of the live ones do
 differ_is : (t : Table) (ids : List ℕ) {r : Bool} → length t.places ≡ 80 → t.stored + t.opens ≤ 80
@@ -31,53 +27,53 @@ returns-then-not-within c =
 pub returns-then-not-is_kept : goal.returns-then-not-is_kept
 returns-then-not-is_kept c =
     let w = sym c.within.ensures ∙ c.if-not-within.false in
-    sym (within_kept c.args.table (long (goal.at.returns-then-not-is_kept c).Start) w ∙ rw (sym c.is_kept.ensures ∙ c.if-not-is_kept.true))
+    sym (within_kept c.args.table (search rules) w ∙ rw (sym c.is_kept.ensures ∙ c.if-not-is_kept.true))
 
 pub lives-lives-requires : goal.lives-lives-requires
 lives-lives-requires c =
-    counts_fit c.args.table (long (goal.at.lives-lives-requires c).Start) (sym c.within.ensures ∙ c.if-not-within.false)
+    counts_fit c.args.table (search rules) (sym c.within.ensures ∙ c.if-not-within.false)
 
 pub returns-then-lives : goal.returns-then-lives
 returns-then-lives c =
     let t = c.args.table in
     let w = sym c.within.ensures ∙ c.if-not-within.false in
-    sym (within_kept t (long (goal.at.returns-then-lives c).Start) w
+    sym (within_kept t (search rules) w
     ∙ rw (sym c.is_kept.ensures ∙ c.if-not-is_kept.false, sym c.lives-lives.ensures.orphan_is ∙ c.if-lives.true)
     (and-false (distinct (λ x. x.id) (stored_of t ++ opens_of t))))
 
 pub overflow_add-n : goal.overflow_add-n
 overflow_add-n c =
-    let b = counts_fit c.args.table (long (goal.at.overflow_add-n c).Start) (sym c.within.ensures ∙ c.if-not-within.false) in
+    let b = counts_fit c.args.table (search rules) (sym c.within.ensures ∙ c.if-not-within.false) in
     let l = c.lives-lives.ensures.long in
     search rules
 
 pub slice_bounds-ids-end : goal.slice_bounds-ids-end
 slice_bounds-ids-end c =
-    let b = counts_fit c.args.table (long (goal.at.slice_bounds-ids-end c).Start) (sym c.within.ensures ∙ c.if-not-within.false) in
+    let b = counts_fit c.args.table (search rules) (sym c.within.ensures ∙ c.if-not-within.false) in
     let l = c.lives-lives.ensures.long in
     search rules
 
 pub slice_bounds-all_differ-end : goal.slice_bounds-all_differ-end
 slice_bounds-all_differ-end c =
     let t = c.args.table in
-    let b = counts_fit t (long (goal.at.slice_bounds-all_differ-end c).Start) (sym c.within.ensures ∙ c.if-not-within.false) in
+    let b = counts_fit t (search rules) (sym c.within.ensures ∙ c.if-not-within.false) in
     sym (length-take-le (t.stored + t.opens) c.lives-lives.result.ids (omega (arith, c.lives-lives.ensures.long)))
 
 pub returns-then-not-all_differ : goal.returns-then-not-all_differ
 returns-then-not-all_differ c =
     let t = c.args.table in
     let w = sym c.within.ensures ∙ c.if-not-within.false in
-    let b = counts_fit t (long (goal.at.returns-then-not-all_differ c).Start) w in
-    let d = differ_is t c.lives-lives.result.ids (long (goal.at.returns-then-not-all_differ c).Start) b c.lives-lives.ensures.ids_are c.all_differ.ensures in
-    sym (within_kept t (long (goal.at.returns-then-not-all_differ c).Start) w
+    let b = counts_fit t (search rules) w in
+    let d = differ_is t c.lives-lives.result.ids (search rules) b c.lives-lives.ensures.ids_are c.all_differ.ensures in
+    sym (within_kept t (search rules) w
     ∙ rw (sym c.is_kept.ensures ∙ c.if-not-is_kept.false, sym d ∙ c.if-not-all_differ.true))
 
 pub returns : goal.returns
 returns c =
     let t = c.args.table in
     let w = sym c.within.ensures ∙ c.if-not-within.false in
-    let b = counts_fit t (long (goal.at.returns c).Start) w in
-    let d = differ_is t c.lives-lives.result.ids (long (goal.at.returns c).Start) b c.lives-lives.ensures.ids_are c.all_differ.ensures in
-    sym (within_kept t (long (goal.at.returns c).Start) w
+    let b = counts_fit t (search rules) w in
+    let d = differ_is t c.lives-lives.result.ids (search rules) b c.lives-lives.ensures.ids_are c.all_differ.ensures in
+    sym (within_kept t (search rules) w
     ∙ rw (sym c.is_kept.ensures ∙ c.if-not-is_kept.false, sym d ∙ c.if-not-all_differ.false, sym c.lives-lives.ensures.orphan_is ∙ c.if-lives.false, ← c.lives-lives.ensures.reports_are)
     (sym c.cancel_fits.ensures))

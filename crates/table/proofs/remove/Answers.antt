@@ -1,6 +1,6 @@
 -- `remove` meets its contract: the tests are the objections, in their order; scans tell what is removed and cancelled.
 -- Assumes nothing.
-use Rattle.std.proofs.Common.{◌≡◌, ◌||◌, [], length, sym, ap, ◌∙◌, arith}
+use Rattle.std.proofs.Common.{◌||◌, [], sym, ap, ◌∙◌, arith, rules}
 use Rattle.refusal.specs.declared.Refusal.TheVariants.{BadArgument}
 use Rattle.places.specs.Calls.{remove_in}
 use Rattle.places.specs.Views.{view}
@@ -11,10 +11,6 @@ use Rattle.places.proofs.Refusing.{kept_counts, past_kept, unkept}
 use Rattle.places.proofs.Finding.{stored_there}
 use Rattle.rules.proofs.Clauses.{remove_objects, first_holds, first_passed, first_none}
 use Rattle.table.proofs.remove.Goals as goal
-use Rattle.table.proofs.remove.Goals.{Start}
-
-long : (c : Start) → length c.args.table.places ≡ 80
-long c = c.well_formed.0.1.1.0.1.0.1
 
 pub returns-then-not-is_kept : goal.returns-then-not-is_kept
 unfolding remove_in
@@ -50,5 +46,5 @@ returns c =
     let a = c.args in
     let k = sym c.is_kept.ensures ∙ c.if-not-is_kept.false in
     let b = kept_counts a.table k in
-    let found = c.either-wakes.ensures ∙ ap (λ b. b || c.cancels-cancels.result) (stored_there a.table (long (goal.at.returns c).Start) (omega arith) (chosen a.choice) c.find_stored.ensures) in
+    let found = c.either-wakes.ensures ∙ ap (λ b. b || c.cancels-cancels.result) (stored_there a.table (search rules) (omega arith) (chosen a.choice) c.find_stored.ensures) in
     rw (past_kept a.table k (call.remove a.choice a.reason) ∙ ap first_of (remove_objects (view a.table) a.choice a.reason) ∙ first_passed BadArgument [] (sym c.is_bad_reason.ensures ∙ c.if-is_bad_reason.false) ∙ first_none, ← c.cancels-cancels.ensures, ← found, ← c.swept.ensures, ← c.reason_after.ensures, ← c.with_cancel.ensures, remove_in)

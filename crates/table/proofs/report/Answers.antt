@@ -1,6 +1,6 @@
 -- `report` meets its contract: refused with 7, refused with 3 where the scan of the open ones finds a report, or `hand_out`'s.
 -- Assumes nothing.
-use Rattle.std.proofs.Common.{◌≡◌, [], length, sym, ap, ◌∙◌, arith, le-ltb, lt-ltb}
+use Rattle.std.proofs.Common.{[], sym, ap, ◌∙◌, arith, le-ltb, lt-ltb, rules}
 use Rattle.refusal.specs.declared.Refusal.TheVariants.{ReportOpen}
 use Rattle.places.specs.Calls.{report_in}
 use Rattle.places.specs.Views.{view}
@@ -11,10 +11,6 @@ use Rattle.places.proofs.Refusing.{kept_counts, kept_log, past_kept, unkept}
 use Rattle.places.proofs.Finding.{open_there}
 use Rattle.rules.proofs.Clauses.{report_objects, report_open_is, first_holds, first_passed, first_none}
 use Rattle.table.proofs.report.Goals as goal
-use Rattle.table.proofs.report.Goals.{Start}
-
-long : (c : Start) → length c.args.table.places ≡ 80
-long c = c.well_formed.0.1.1.0.1.0.1
 
 pub returns-then-not-is_kept : goal.returns-then-not-is_kept
 unfolding report_in
@@ -32,7 +28,7 @@ returns-then-find_open-lt80 c =
     let t = c.args.table in
     let k = sym c.is_kept.ensures ∙ c.if-not-is_kept.false in
     let b = kept_counts t k in
-    let there = report_open_is (view t) ∙ sym (open_there t (long (goal.at.returns-then-find_open-lt80 c).Start) (omega arith) is_report c.find_open.ensures) ∙ lt-ltb _ _ c.if-find_open-lt80.true in
+    let there = report_open_is (view t) ∙ sym (open_there t (search rules) (omega arith) is_report c.find_open.ensures) ∙ lt-ltb _ _ c.if-find_open-lt80.true in
     rw (past_kept t k (call.report c.args.at) ∙ ap first_of (report_objects (view t) c.args.at) ∙ first_holds ReportOpen [] there, report_in) c.not_reported-then-find_open-lt80.ensures
 
 pub hand_out-requires : goal.hand_out-requires
@@ -46,5 +42,5 @@ returns c =
     let t = c.args.table in
     let k = sym c.is_kept.ensures ∙ c.if-not-is_kept.false in
     let b = kept_counts t k in
-    let none = report_open_is (view t) ∙ sym (open_there t (long (goal.at.returns c).Start) (omega arith) is_report c.find_open.ensures) ∙ le-ltb _ _ c.if-find_open-lt80.false in
+    let none = report_open_is (view t) ∙ sym (open_there t (search rules) (omega arith) is_report c.find_open.ensures) ∙ le-ltb _ _ c.if-find_open-lt80.false in
     rw (past_kept t k (call.report c.args.at) ∙ ap first_of (report_objects (view t) c.args.at) ∙ first_passed ReportOpen [] none ∙ first_none, report_in) c.hand_out.ensures

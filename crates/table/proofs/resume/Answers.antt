@@ -1,6 +1,6 @@
 -- `resume` meets its contract: refused with 7, refused as `admits` says, or stored; where nothing objects there is room.
 -- Assumes nothing.
-use Rattle.std.proofs.Common.{◌≡◌, length, sym, ap, ◌∙◌, arith}
+use Rattle.std.proofs.Common.{◌≡◌, sym, ap, ◌∙◌, arith, rules}
 use Rattle.places.specs.Calls.{admit_objections, resume_in}
 use Rattle.rules.specs.Machine.{first_of}
 use Rattle.answers.specs.Numbers.{mark_value}
@@ -10,10 +10,6 @@ use Rattle.places.proofs.Refusing.{kept_counts, kept_log, past_kept, unkept, res
 use Rattle.table.proofs.Verdicts.{verdict_clear, verdict_why}
 use Rattle.changes.proofs.Answering.{mark_answer}
 use Rattle.table.proofs.resume.Goals as goal
-use Rattle.table.proofs.resume.Goals.{Start}
-
-long : (c : Start) → length c.args.table.places ≡ 80
-long c = c.well_formed.0.1.1.0.1.0.1
 
 pub returns-then-not-is_kept : goal.returns-then-not-is_kept
 unfolding resume_in
@@ -38,7 +34,7 @@ returns-in-Refuse c =
     let a = c.args in
     let k = sym c.is_kept.ensures ∙ c.if-not-is_kept.false in
     let why = verdict_why (first_of (admit_objections a.table a.request a.id)) _ (sym c.in-Refuse.is ∙ c.admits.ensures) in
-    rw (past_kept a.table k (call.resume a.id a.request a.events) ∙ ap first_of (resume_same a.table (long (goal.at.returns-in-Refuse c).Start) k a.id a.request a.events) ∙ why, resume_in) c.not_admitted-in-Refuse.ensures
+    rw (past_kept a.table k (call.resume a.id a.request a.events) ∙ ap first_of (resume_same a.table (search rules) k a.id a.request a.events) ∙ why, resume_in) c.not_admitted-in-Refuse.ensures
 
 pub returns-in-Clear : goal.returns-in-Clear
 unfolding resume_in
@@ -47,5 +43,5 @@ returns-in-Clear c =
     let k = sym c.is_kept.ensures ∙ c.if-not-is_kept.false in
     let clear = verdict_clear (first_of (admit_objections a.table a.request a.id)) (sym c.in-Clear.is ∙ c.admits.ensures) in
     let m : c.value-mark.result ≡ watermark_of a.table.log = c.value-mark.ensures ∙ ap mark_value (c.watermark.ensures ∙ mark_answer a.table.log (kept_log a.table k)) in
-    rw (past_kept a.table k (call.resume a.id a.request a.events) ∙ ap first_of (resume_same a.table (long (goal.at.returns-in-Clear c).Start) k a.id a.request a.events) ∙ clear, resume_in)
+    rw (past_kept a.table k (call.resume a.id a.request a.events) ∙ ap first_of (resume_same a.table (search rules) k a.id a.request a.events) ∙ clear, resume_in)
     (rw (← m, ← c.resumed-x.ensures, ← c.stored_last.ensures, ← c.next_id.ensures, ← c.with_next.ensures))
