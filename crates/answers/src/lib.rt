@@ -1,5 +1,5 @@
-// The answers of the change log: a value, or the refusal. Their numbers in document 01 are in specs/. Which call gives which answer is
-// crate changes' matter; the table answers with some of them too.
+// The answers of the change log. A call answers with a `Result`: the value, or the refusal. Document 01's numbers of an answer are in specs/.
+// Which call gives which answer is crate changes' matter; the table answers with some of them too.
 #![tactic(auto)]
 
 ghost use Rattle.std.specs.Prelude.{◌≡◌};
@@ -9,63 +9,28 @@ ghost use Rattle.answers.specs.Numbers.{mark_value, says_yes};
 use refusal::Refusal;
 
 // What a note that was entered is told.
-#[derive(Clone, Copy)]
+#[derive(Clone, Copy, Debug, PartialEq, Eq)]
 pub struct Entered {
     pub identity: u64,
 }
 
-#[derive(Clone, Copy)]
-pub enum NoteAnswer {
-    Entered(Entered),
-    Refused(Refusal),
+// Whether a question was answered yes; a refusal is no answer.
+pub fn is_yes(told: Result<bool, Refusal>) -> bool
+    ensures { result ≡ says_yes told }
+{
+    told.unwrap_or(false)
 }
 
-// The answer of a call that changes the log and has nothing to tell.
-#[derive(Clone, Copy)]
-pub enum Change {
-    Done,
-    Refused(Refusal),
-}
-
-#[derive(Clone, Copy)]
-pub enum Told {
-    Is(bool),
-    Refused(Refusal),
-}
-
-#[derive(Clone, Copy)]
-pub enum Mark {
-    At(u64),
-    Refused(Refusal),
-}
-
-impl Told {
-    // Whether the answer is yes; a refusal is no answer.
-    pub fn is_yes(self) -> bool
-        ensures { result ≡ says_yes self }
-    {
-        match self {
-            Told::Is(answer) => answer,
-            Told::Refused(_) => false,
-        }
-    }
-}
-
-impl Mark {
-    // The identity of the answer; 0 where it is a refusal.
-    pub fn value(self) -> u64
-        ensures { result ≡ mark_value self }
-    {
-        match self {
-            Mark::At(identity) => identity,
-            Mark::Refused(_) => 0,
-        }
-    }
+// The identity that was answered; 0 where it is a refusal.
+pub fn value(mark: Result<u64, Refusal>) -> u64
+    ensures { result ≡ mark_value mark }
+{
+    mark.unwrap_or(0)
 }
 
 // Document 01's value of a yes or no: 1 for yes, 0 for no.
 pub fn flag(yes: bool) -> u64
     ensures { result ≡ one yes }
 {
-    if yes { 1 } else { 0 }
+    u64::from(yes)
 }
