@@ -1,10 +1,9 @@
 -- What a line does to a table is what document 01's rules do with it at the state that the table stands for, by the laws of agreement of
 -- the table's calls; and a whole, well-kept table stays so.
 -- Assumes nothing.
+use Rattle.std.specs.Prelude.{Option, Some, None}
 use mathlib.Core.Path.{◌≡◌, refl, sym, ap, ◌∙◌}
 use mathlib.Core.Bool.{true}
-use mathlib.Core.Option.{Option, none}
-use mathlib.Core.Option.{some as just}
 use Prim.Native.Nat.{ℕ}
 use Rattle.instants.specs.Instants.{instant}
 use Rattle.time.specs.Intervals.{keep_alive_of}
@@ -127,8 +126,8 @@ answer_whole t whole (Wake events icd) = whole
 answer_whole t whole Bad = whole
 
 line_kept : (op : Option Op) (s : State) → well_kept s ≡ true → well_kept (line_by op s).state ≡ true
-line_kept none s h = h
-line_kept (just op) s h = step_well_kept op s h
+line_kept None s h = h
+line_kept (Some op) s h = step_well_kept op s h
 
 pub answer_kept : (t : Table) → Whole t → kept t ≡ true → (l : Line) → kept (answer_in t l).table ≡ true
 unfolding line_step

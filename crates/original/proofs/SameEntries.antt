@@ -1,9 +1,8 @@
 -- One entry: the Rust's covering, matching and coarsening are document 01's.
 -- Assumes nothing.
+use Rattle.std.specs.Prelude.{Option, Some, None}
 use mathlib.Core.Path.{◌≡◌, refl, sym, ◌∙◌, fun_ext}
 use mathlib.Core.Bool.{Bool, true, false, cond, not, ◌&&◌, ◌||◌, and_assoc}
-use mathlib.Core.Option.{Option, none}
-use mathlib.Core.Option.{some as just}
 use Prim.Native.Nat.{ℕ}
 use lib.Dec.{eqb, leb, ltb}
 use Rattle.entries.specs.declared.ChangedAttr.{ChangedAttr}
@@ -70,10 +69,10 @@ number Cluster = 1
 number Endpoint = 2
 
 abbrev pub as_option : Coarser → Option ChangedAttr
-as_option (To by) = just by
-as_option Nothing = none
+as_option (To by) = Some by
+as_option Nothing = None
 
-either : (b : Bool) (by : ChangedAttr) → cond b none (just by) ≡ as_option (cond b Nothing (To by))
+either : (b : Bool) (by : ChangedAttr) → cond b None (Some by) ≡ as_option (cond b Nothing (To by))
 either true by = refl
 either false by = refl
 

@@ -19,7 +19,7 @@ use Rattle.rules.specs.Machine.{Outcome, outcome, with_ones, with_cancel, step}
 use Rattle.places.specs.Views.{stored_of, opens_of, view, kept}
 use Rattle.places.specs.Tests.{struck}
 use Rattle.places.specs.Moves.{swapped, swept_from, swept_out}
-use Rattle.places.specs.Calls.{not_woken, cancels_in, remove_in}
+use Rattle.places.specs.Calls.{refused_in, cancels_in, remove_in}
 use Rattle.places.specs.Agreement.{woken_says}
 use Rattle.rules.specs.Calls as call
 use Rattle.lists.proofs.Bools.{split}
@@ -78,7 +78,7 @@ module _ (t : Table) (long : length t.places ≡ 80) (h : kept t ≡ true) where
       let wakes = some (chosen choice) (stored_of t) || cancels_in t choice in
       let after = cond (cancels_in t choice) reason t.cancel in
       let left : List Subscription → List Subscription → Outcome = λ stored opens. outcome (call.yes_no wakes) (with_cancel (with_ones (view t) stored opens) after) in
-      agreeing woken_says t (call.remove choice reason) (not_woken t) _ (λ why. refl) h
+      agreeing woken_says t (call.remove choice reason) (refused_in t) _ (λ why. refl) h
       (λ _. ap (λ l. left l (opens_of (swept_out (chosen choice) t))) (swept_stored (chosen choice))
       ∙ ap (left (sweep (chosen choice) (stored_of t))) (swept_opens (chosen choice))
       ∙ sym (act_remove (view t) choice reason))

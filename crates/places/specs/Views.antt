@@ -1,8 +1,7 @@
 -- The table as the code holds it, and the state of the machine that it stands for. The stored ones are the first places, in their order; the
 -- open ones are the last places, the newest first. What stands between them means nothing.
 -- Assumes nothing.
-use Rattle.std.specs.Prelude.{Bool, cond, not, ◌&&◌, List, ◌∷◌, ℕ, ◌+◌, ◌-◌, leb, ltb, take, drop, replicate}
-use Rattle.std.proofs.Math.Option.{Option}
+use Rattle.std.specs.Prelude.{Bool, cond, not, ◌&&◌, List, ◌∷◌, ℕ, ◌+◌, ◌-◌, leb, ltb, take, drop, replicate, Option}
 use Rattle.refusal.specs.declared.Refusal.{Refusal}
 use Rattle.refusal.specs.declared.Refusal.TheVariants.{NotWellKept}
 use Rattle.subscription.specs.declared.Subscription.{Subscription}

@@ -1,8 +1,7 @@
 -- What lasts through every move of the table lasts through a round, which is the table's calls.
 -- Assumes nothing.
+use Rattle.std.specs.Prelude.{Option, Some, None}
 use mathlib.Core.List.{List, [], ◌∷◌}
-use mathlib.Core.Option.{Option, none}
-use mathlib.Core.Option.{some as just}
 use Prim.Native.Nat.{ℕ, ◌+◌}
 use lib.ListN.{set}
 use Rattle.refusal.specs.declared.Refusal.{Refusal}
@@ -41,5 +40,5 @@ module _ {P : Table → Type 0} (lasting : Lasting P) where
   round_lasts t at os ids h = go (refusal_at (call.round at os ids) t)
     where
       go : (r : Option Refusal) → P (settled_by r (λ why. (not_rounded t why, ids)) (made at (served at os 0 ids t))).0.table
-      go none = served_lasts at os 0 ids t h
-      go (just why) = h
+      go None = served_lasts at os 0 ids t h
+      go (Some why) = h

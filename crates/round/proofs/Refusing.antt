@@ -1,10 +1,9 @@
 -- How a round comes to its refusal: 7 first, then its slices, then an open report, which is where a report is refused.
 -- Assumes nothing.
+use Rattle.std.specs.Prelude.{Option, Some, None}
 use mathlib.Core.Path.{◌≡◌, refl, ap, ◌∙◌}
 use mathlib.Core.Bool.{Bool, true, false}
 use mathlib.Core.List.{List, [], ◌∷◌}
-use mathlib.Core.Option.{Option, none}
-use mathlib.Core.Option.{some as just}
 use Prim.Native.Nat.{ℕ}
 use borrow.Author.Tests.{eqb-true, not-false}
 use lib.ListN.{length}
@@ -30,8 +29,8 @@ use Rattle.places.proofs.Refusing.{state_kept, past_kept}
 use Rattle.places.proofs.ReportAgrees.{report_agrees}
 
 present : Option Refusal → Bool
-present none = false
-present (just why) = true
+present None = false
+present (Some why) = true
 
 refuses_is : (a : HandOut) → refuses a ≡ present (refusal_of (hand_out_answer a))
 unfolding present
@@ -58,14 +57,14 @@ module _ (t : Table) (h : kept t ≡ true) where
     judged : refusal_at (call.round at os ids) t ≡ first_of ((bad_slices os (length ids), BadArgument) ∷ (report_open (view t), ReportOpen) ∷ [])
     judged = past_kept t h (call.round at os ids) ∙ ap first_of (round_objects (view t) at os ids)
 
-    pub refused_slices : bad_slices os (length ids) ≡ true → refusal_at (call.round at os ids) t ≡ just BadArgument
+    pub refused_slices : bad_slices os (length ids) ≡ true → refusal_at (call.round at os ids) t ≡ Some BadArgument
     refused_slices b = judged ∙ first_holds BadArgument _ b
 
     module _ (good : bad_slices os (length ids) ≡ false) where
-      pub refused_shut : report_open (view t) ≡ true → refusal_at (call.round at os ids) t ≡ just ReportOpen
+      pub refused_shut : report_open (view t) ≡ true → refusal_at (call.round at os ids) t ≡ Some ReportOpen
       refused_shut b = judged ∙ first_passed BadArgument _ good ∙ first_holds ReportOpen [] b
 
-      pub not_refused : report_open (view t) ≡ false → refusal_at (call.round at os ids) t ≡ none
+      pub not_refused : report_open (view t) ≡ false → refusal_at (call.round at os ids) t ≡ None
       not_refused b = judged ∙ first_passed BadArgument _ good ∙ first_passed ReportOpen [] b ∙ first_none
 
 -- slices that are not bad are of equal length

@@ -1,9 +1,9 @@
 -- A round of a well-kept table is the machine's at the state that the table stands for: the same answer, the same ids, the same state.
 -- Assumes nothing.
+use Rattle.std.specs.Prelude.{None}
 use mathlib.Core.Path.{◌≡◌, refl, sym, ap, ◌∙◌}
 use mathlib.Core.Bool.{true, not}
 use mathlib.Core.List.{List}
-use mathlib.Core.Option.{none}
 use Prim.Native.Nat.{ℕ}
 use lib.ListN.{length}
 use Rattle.subscription.specs.declared.Settings.{Settings}
@@ -31,7 +31,7 @@ silence_agrees at t f =
     (λ e. still_silent at t f e ∙ sym (ap not e))
 
 module _ (t : Table) (long : length t.places ≡ 80) (h : kept t ≡ true) (at : Settings) (os ids : List ℕ) where
-  acted_same : refusal_at (call.round at os ids) t ≡ none → round_says (made at (served at os 0 ids t)) ≡ act (call.round at os ids) (view t)
+  acted_same : refusal_at (call.round at os ids) t ≡ None → round_says (made at (served at os 0 ids t)) ≡ act (call.round at os ids) (view t)
   acted_same e =
       let a = unobjected _ _ _ (sym (past_kept t h (call.round at os ids) ∙ ap first_of (round_objects (view t) at os ids)) ∙ e) in
       let shut = (unobjected _ _ _ a.1).0 in

@@ -1,7 +1,6 @@
 -- What the code's own parts promise: what a scan looks for and measures, what the pass over the live ones finds, and a verdict.
 -- Assumes nothing.
-use Rattle.std.specs.Prelude.{◌≡◌, ℕ, Bool, List, ◌++◌, map, length, take}
-use Rattle.std.proofs.Math.Option.{Option, none, some as just}
+use Rattle.std.specs.Prelude.{◌≡◌, ℕ, Bool, List, ◌++◌, map, length, take, Option, Some, None}
 use Rattle.refusal.specs.declared.Refusal.{Refusal}
 use Rattle.subscription.specs.declared.Subscription.{Subscription}
 use Rattle.table.specs.declared.keeping.Pass.{Pass}
@@ -42,5 +41,5 @@ pub record Lived (stored opens : List Subscription) (r : Pass) : Type 0 where
 
 -- a refusal, if there is one
 abbrev pub as_verdict : Option Refusal → Verdict
-as_verdict none = verdict.Clear
-as_verdict (just why) = verdict.Refuse why
+as_verdict None = verdict.Clear
+as_verdict (Some why) = verdict.Refuse why
