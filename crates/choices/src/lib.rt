@@ -8,7 +8,7 @@ use instants::Instant;
 use subscription::Subscription;
 
 // Which subscriptions a removal takes.
-#[derive(Clone, Copy)]
+#[derive(Clone, Copy, PartialEq, Eq, Debug)]
 pub enum Choice {
     All,
     Fabric(u8),
@@ -22,16 +22,11 @@ impl Choice {
         ensures { result ≡ chosen self s }
     {
         match self {
-            Choice::All => true,
-            Choice::Fabric(fabric) => s.fabric == fabric,
-            Choice::Peer(fabric, peer) => {
-                if s.fabric == fabric {
-                    return s.peer == peer;
-                }
-                false
-            }
-            Choice::Id(id) => s.id == id,
-            Choice::ExpiredAt(now) => s.is_expired(now),
+            Self::All => true,
+            Self::Fabric(fabric) => s.fabric == fabric,
+            Self::Peer(fabric, peer) => s.fabric == fabric && s.peer == peer,
+            Self::Id(id) => s.id == id,
+            Self::ExpiredAt(now) => s.is_expired(now),
         }
     }
 }

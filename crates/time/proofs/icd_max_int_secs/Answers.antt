@@ -1,13 +1,10 @@
--- `icd_max_int_secs` meets its contract by what `capped` ensures; the sum of two numbers of 16 bits fits 32.
+-- `icd_max_int_secs` meets its contract: what has more than 16 bits is capped.
 -- Assumes nothing.
-use borrow.Author.Rules.{rules}
+use native.Mathlib.Omega.{arith}
+use Rattle.std.proofs.lemmas.Grind.{common_steps}
 use Rattle.time.specs.Intervals.{icd_max_secs}
 use Rattle.time.proofs.icd_max_int_secs.Goals as goal
 
-pub returns-then-idle-room : goal.returns-then-idle-room
-unfolding icd_max_secs
-returns-then-idle-room c = search rules
-
 pub returns : goal.returns
 unfolding icd_max_secs
-returns c = search rules
+returns c = grind (arith, common_steps)

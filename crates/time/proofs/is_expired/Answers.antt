@@ -1,13 +1,10 @@
--- `is_expired` meets its contract: each arm is a case of what `checked_add` ensures.
+-- `is_expired` meets its contract: what `is_some_and` ensures is the definition's two cases.
 -- Assumes nothing.
+use native.Mathlib.Omega.{arith}
+use Rattle.std.proofs.lemmas.Grind.{common_steps}
 use Rattle.time.specs.Moments.{expired}
 use Rattle.time.proofs.is_expired.Goals as goal
 
-pub returns-in-At : goal.returns-in-At
+pub returns : goal.returns
 unfolding expired
-returns-in-At c =
-    rw (← c.checked_add.ensures, c.in-At.is)
-
-pub returns-in-Overflow : goal.returns-in-Overflow
-unfolding expired
-returns-in-Overflow c = rw (← c.checked_add.ensures, c.in-Overflow.is)
+returns c = grind (arith, common_steps)

@@ -1,4 +1,4 @@
--- `subscription_max_int_secs` meets its contract by what `lesser`, `greater` and `capped` ensure.
+-- `subscription_max_int_secs` meets its contract by what `min`, `max` and `saturating_add` ensure.
 -- Assumes nothing.
 use borrow.Author.Rules.{rules}
 use Rattle.time.specs.Intervals.{granted_max_secs}

@@ -1,19 +1,10 @@
--- `checked_add` meets its contract: that the sum is at most the last instant is tested by a difference, which cannot overflow.
+-- `checked_add` meets its contract: the library's sum is none where it is past the last number of 64 bits.
 -- Assumes nothing.
-use Prim.Native.Nat.{◌+◌, ◌*◌}
+use Rattle.std.proofs.lemmas.Grind.{common_steps}
 use native.Mathlib.Omega.{arith}
-use borrow.Author.Tests.{le-leb, lt-leb}
-use Rattle.instants.specs.Instants.{later, last_instant}
+use Rattle.instants.specs.Instants.{later}
 use Rattle.instants.proofs.Instant.checked_add.Goals as goal
 
-pub returns-then-self-last : goal.returns-then-self-last
+pub returns : goal.returns
 unfolding later
-returns-then-self-last c =
-    let a = c.args in
-    simp (le-leb (a.self.ms + a.secs * 1000) last_instant.ms (omega arith))
-
-pub returns-else-self-last : goal.returns-else-self-last
-unfolding later
-returns-else-self-last c =
-    let a = c.args in
-    simp (lt-leb (a.self.ms + a.secs * 1000) last_instant.ms (omega arith))
+returns c = grind (arith, common_steps)

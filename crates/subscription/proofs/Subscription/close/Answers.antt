@@ -1,20 +1,18 @@
--- `close` meets its contract: each return is a case of the definition, by the outcome, with what `next_fails`, `retry_at` and `stored` ensure.
+-- `close` meets its contract: each arm is a case of the definition, by the outcome.
 -- Assumes nothing.
-use borrow.Author.Tests.{eq-eqb, ne_eqb}
+use native.Mathlib.Omega.{arith}
+use Rattle.std.proofs.lemmas.Grind.{common_steps}
 use Rattle.subscription.specs.Life.{closed}
 use Rattle.subscription.proofs.Subscription.close.Goals as goal
 
-pub returns-then-outcome-eq-RETRY : goal.returns-then-outcome-eq-RETRY
+pub returns-in-2 : goal.returns-in-2
 unfolding closed
-returns-then-outcome-eq-RETRY c =
-    rw (eq-eqb _ _ c.if-outcome-eq-RETRY.true, ← c.next_fails-fails.ensures, ← c.retry_at-retry.ensures, closed) c.stored.ensures
+returns-in-2 c = grind (arith, common_steps)
 
-pub returns-then-outcome-eq-UNSENT : goal.returns-then-outcome-eq-UNSENT
+pub returns-in-1 : goal.returns-in-1
 unfolding closed
-returns-then-outcome-eq-UNSENT c =
-    rw (ne_eqb _ _ c.if-outcome-eq-RETRY.false, eq-eqb _ _ c.if-outcome-eq-UNSENT.true, closed) c.stored-then-outcome-eq-UNSENT.ensures
+returns-in-1 c = grind (arith, common_steps)
 
-pub returns : goal.returns
+pub returns-in_default : goal.returns-in_default
 unfolding closed
-returns c =
-    rw (ne_eqb _ _ c.if-outcome-eq-RETRY.false, ne_eqb _ _ c.if-outcome-eq-UNSENT.false, closed) c.stored-2.ensures
+returns-in_default c = grind (arith, common_steps)

