@@ -9,8 +9,8 @@ use lib.Dec.{eqb, leb, ltb}
 use Rattle.entries.specs.declared.ChangedAttr.{ChangedAttr}
 use Rattle.entries.specs.declared.Level.{Level}
 use Rattle.entries.specs.declared.Level.TheVariants.{Cluster, Endpoint}
-use Rattle.entries.specs.declared.Coarser.{Coarser}
-use Rattle.entries.specs.declared.Coarser.TheVariants.{To, Nothing}
+use Rattle.std.specs.Prelude.{Some, None}
+use Rattle.std.specs.Prelude.{Option as Maybe}
 use Rattle.entries.specs.Paths as paths
 use Rattle.entries.specs.Paths.{entry, wild_endpoint, wild_cluster, wild_attr, field_covers, over, under, up_to, above, since, candidate}
 use Rattle.entries.proofs.Covering.{over_covers, under_covers, up_to_at, above_at, field_covers_at, covers_at, field_matches_at, since_at, candidate_cluster, candidate_endpoint}
@@ -69,11 +69,11 @@ abbrev pub number : Level → ℕ
 number Cluster = 1
 number Endpoint = 2
 
-abbrev pub as_option : Coarser → Option ChangedAttr
-as_option (To by) = just by
-as_option Nothing = none
+abbrev pub as_option : Maybe ChangedAttr → Option ChangedAttr
+as_option (Some by) = just by
+as_option None = none
 
-either : (b : Bool) (by : ChangedAttr) → cond b none (just by) ≡ as_option (cond b Nothing (To by))
+either : (b : Bool) (by : ChangedAttr) → cond b none (just by) ≡ as_option (cond b None (Some by))
 either true by = refl
 either false by = refl
 
