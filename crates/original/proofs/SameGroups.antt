@@ -17,8 +17,6 @@ use Rattle.lists.proofs.Bools.{split}
 use Rattle.lists.proofs.Removals.{length_refilled}
 use Rattle.entries.specs.declared.ChangedAttr.{ChangedAttr}
 use Rattle.entries.specs.declared.Level.{Level}
-use Rattle.entries.specs.declared.Coarser.{Coarser}
-use Rattle.entries.specs.declared.Coarser.TheVariants.{To, Nothing}
 use Rattle.entries.specs.Paths.{blank, under, candidate}
 use Rattle.notes.specs.declared.Group.{Group}
 use Rattle.notes.specs.Notes.{sized, largest_from, largest, newest, folded}
@@ -27,7 +25,7 @@ use Rattle.original.specs.Std.{swap_remove}
 use Rattle.original.specs.Entries.{covers, coarsen}
 use Rattle.original.specs.Log.{best_pivot, collapse, coarsened_by, promoted, promote_largest_group}
 use Rattle.original.proofs.Vectors.{swap_first, swap_later}
-use Rattle.original.proofs.SameEntries.{under_same, number, as_option, coarsen_same}
+use Rattle.original.proofs.SameEntries.{under_same, number, coarsen_same}
 
 -- ---- the loop that collapses a group
 
@@ -153,21 +151,21 @@ module _ (level : Level) (l : List ChangedAttr) where
   pivot_is (x ∷ rest) c b best h =
       rw (largest_more level l best x rest) (go (candidate level x) (coarsen_same level x) (pivot_is rest))
     where
-      go : (k : Coarser) → coarsen (number level) x ≡ as_option k
+      go : (k : Option ChangedAttr) → coarsen (number level) x ≡ k
           → ((c : ℕ) (b : Option ChangedAttr) (best : Group) → Agrees c b best
           → coarsened_by (number level) (best_pivot (number level) l rest c b)
           ≡ cond (ltb 1 (largest_from level l best rest).size) (Some (largest_from level l best rest).by) None)
           → coarsened_by (number level) (best_pivot (number level) l (x ∷ rest) c b)
           ≡ cond (ltb 1 (largest_from level l (cond (ltb best.size (sized l k).size) (sized l k) best) rest).size)
           (Some (largest_from level l (cond (ltb best.size (sized l k).size) (sized l k) best) rest).by) None
-      go Nothing e ih = rw (e, le-ltb c 0 (omega arith), le-ltb best.size 0 (omega arith), best_pivot) (ih c b best h)
-      go (To by) e ih =
+      go None e ih = rw (e, le-ltb c 0 (omega arith), le-ltb best.size 0 (omega arith), best_pivot) (ih c b best h)
+      go (Some by) e ih =
           let size = ap (λ p. count p l) (under_same by) in
           let best-size = ap (λ n. ltb n (count (under by) l)) (same_size c b best h) in
           split (ltb c (count (under by) l))
           (λ t. rw (e, size, t, best-size ∙ t, best_pivot)
           (rw (e, size)
-          (ih (count (under by) l) (Some x) (sized l (To by))
+          (ih (count (under by) l) (Some x) (sized l (Some by))
           (refl, (omega (arith, at_least c b best h, ltb-true c (count (under by) l) t), e)))))
           (λ t. rw (e, size, t, best-size ∙ t, best_pivot) (ih c b best h))
 
