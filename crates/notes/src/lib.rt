@@ -9,7 +9,7 @@ ghost use Rattle.entries.specs.Paths.{blank, all_wild, with_identity, under, hol
 ghost use Rattle.notes.specs.Notes.{newest, placed, group_of, larger, largest, folded, crowded, entered};
 ghost use Rattle.notes.specs.Places.{listed, held_as, any_held, newest_held, held_without, held_after, Holds};
 
-use entries::{ChangedAttr, Coarser, Level, Rule};
+use entries::{ChangedAttr, Level, Rule};
 
 // The entries are the first `len` of sixteen places.
 #[repr(C)]
@@ -258,11 +258,11 @@ fn group_of(held: Held, level: Level, x: ChangedAttr) -> Group
     ensures { result ≡ group_of level (listed held) x }
 {
     match x.coarsen(level) {
-        Coarser::To(by) => Group {
+        Some(by) => Group {
             by: by,
             size: tally(held, Rule::Under(by)),
         },
-        Coarser::Nothing => Group {
+        None => Group {
             by: ChangedAttr::BLANK,
             size: 0,
         },

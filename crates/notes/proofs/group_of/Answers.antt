@@ -3,11 +3,11 @@
 use Rattle.notes.specs.Notes.{group_of}
 use Rattle.notes.proofs.group_of.Goals as goal
 
-pub returns-in-To : goal.returns-in-To
+pub returns-in-Some : goal.returns-in-Some
 unfolding group_of
-returns-in-To c =
-    rw (← c.coarsen.ensures, c.in-To.is, c.tally.ensures)
+returns-in-Some c =
+    rw (← c.coarsen.ensures, c.in-Some.is, c.tally.ensures)
 
-pub returns-in-Nothing : goal.returns-in-Nothing
+pub returns-in-None : goal.returns-in-None
 unfolding group_of
-returns-in-Nothing c = rw (← c.coarsen.ensures, c.in-Nothing.is)
+returns-in-None c = rw (← c.coarsen.ensures, c.in-None.is)
