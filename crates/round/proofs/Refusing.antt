@@ -1,6 +1,6 @@
 -- How a round comes to its refusal: 7 first, then its slices, then an open report, which is where a report is refused.
 -- Assumes nothing.
-use Rattle.std.specs.Prelude.{Option, Some, None}
+use Rattle.std.specs.Prelude.{Option, Some, None, Result, Ok, Err}
 use mathlib.Core.Path.{◌≡◌, refl, ap, ◌∙◌}
 use mathlib.Core.Bool.{Bool, true, false}
 use mathlib.Core.List.{List, [], ◌∷◌}
@@ -12,14 +12,13 @@ use Rattle.refusal.specs.declared.Refusal.{Refusal}
 use Rattle.refusal.specs.declared.Refusal.TheVariants.{BadArgument, ReportOpen}
 use Rattle.subscription.specs.declared.Settings.{Settings}
 use Rattle.places.specs.declared.Table.{Table}
-use Rattle.places.specs.declared.HandOut.{HandOut}
-use Rattle.places.specs.declared.HandOut.TheVariants as hand_out
+use Rattle.places.specs.declared.Handed.{Handed}
 use Rattle.rules.specs.States.{report_open}
 use Rattle.rules.specs.Machine.{bad_outcome, first_of}
 use Rattle.rules.specs.Numbers.{refusal_of}
 use Rattle.places.specs.Views.{view, kept, refusal_at}
 use Rattle.places.specs.Calls.{report_in}
-use Rattle.places.specs.Agreement.{hand_out_answer}
+use Rattle.places.specs.Agreement.{hand_out_answer, answer_by}
 use Rattle.round.specs.Rounds.{bad_slices, refuses, is_shut}
 use Rattle.rules.specs.Calls as call
 use Rattle.lists.proofs.Bools.{split, or_neither}
@@ -32,11 +31,11 @@ present : Option Refusal → Bool
 present None = false
 present (Some why) = true
 
-refuses_is : (a : HandOut) → refuses a ≡ present (refusal_of (hand_out_answer a))
+refuses_is : (a : Result (Option Handed) Refusal) → refuses a ≡ present (refusal_of (answer_by hand_out_answer a))
 unfolding present
-refuses_is (hand_out.To x) = refl
-refuses_is hand_out.Nothing = refl
-refuses_is (hand_out.Refused why) = refl
+refuses_is (Ok (Some x)) = refl
+refuses_is (Ok None) = refl
+refuses_is (Err why) = refl
 
 module _ (t : Table) (h : kept t ≡ true) where
   -- of a well-kept table a report is refused exactly where one is open

@@ -1,5 +1,6 @@
 -- A round of a well-kept table is the machine's at the state that the table stands for: the same answer, the same ids, the same state.
 -- Assumes nothing.
+use Rattle.places.specs.Calls.{refused_in}
 use Rattle.std.specs.Prelude.{None}
 use mathlib.Core.Path.{◌≡◌, refl, sym, ap, ◌∙◌}
 use mathlib.Core.Bool.{true, not}
@@ -12,7 +13,7 @@ use Rattle.lists.specs.Search.{some}
 use Rattle.rules.specs.Machine.{bad_outcome, first_of, outcome, ready, act, step}
 use Rattle.places.specs.Views.{view, kept, refusal_at}
 use Rattle.places.specs.Tidiness.{Whole}
-use Rattle.round.specs.Rounds.{not_rounded, is_silent, served, made, round_of}
+use Rattle.round.specs.Rounds.{is_silent, served, made, round_of}
 use Rattle.round.specs.Agreement.{round_says}
 use Rattle.rules.specs.Calls as call
 use Rattle.lists.proofs.Bools.{split, or_neither}
@@ -46,4 +47,4 @@ module _ (t : Table) (long : length t.places ≡ 80) (h : kept t ≡ true) (at :
   -- its count is the hand-outs of the machine's step
   pub round_agrees : round_says (round_of t at os ids) ≡ step (call.round at os ids) (view t)
   unfolding round_of
-  round_agrees = agreeing round_says t (call.round at os ids) (λ why. (not_rounded t why, ids)) (made at (served at os 0 ids t)) (λ why. refl) h acted_same
+  round_agrees = agreeing round_says t (call.round at os ids) (λ why. (refused_in t why, ids)) (made at (served at os 0 ids t)) (λ why. refl) h acted_same
