@@ -1,40 +1,42 @@
--- `grow` meets its contract: where it refuses, one of the three tests of `grow_of` is false; a number above a tenth of `most`, or a digit above
--- what is left of `most`, is the third.
+-- `grow` meets its contract: where it refuses, one of the three tests of `grow_of` is false; a product or a sum that is too wide is above `most`.
 -- Assumes nothing.
+use Rattle.std.proofs.Common.{◌≡◌, ◌<◌, ◌≤◌, ◌+◌, ◌-◌, ◌*◌, ℕ, true, false, None, Some, sym, ◌∙◌, rules, arith}
 use mathlib.Core.Bool.{and-false}
-use mathlib.Core.Path.{sym, ◌∙◌}
-use Prim.Native.Nat.{◌+◌, ◌-◌, ◌*◌, ◌≤◌, ◌<◌}
-use native.Mathlib.Omega.{arith}
 use borrow.Author.Tests.{le-leb, lt-leb}
-use Rattle.fields.specs.Inner.{grow_of}
+use Rattle.fields.specs.Fields.{digit}
+use Rattle.fields.specs.Inner.{zero_led, grow_of}
 use Rattle.fields.proofs.grow.Goals as goal
 
-pub returns-then-b-lt48 : goal.returns-then-b-lt48
-unfolding grow_of
-returns-then-b-lt48 c = simp (lt-leb _ _ c.if-b-lt48.true, and-false)
+module _ (most v i b : ℕ) where
+  over : most < v * 10 + (b - 48) → None ≡ grow_of most v i b
+  unfolding grow_of
+  over h = simp (lt-leb _ _ h, and-false)
 
-pub returns-then-b-gt57 : goal.returns-then-b-gt57
-unfolding grow_of
-returns-then-b-gt57 c = simp (lt-leb _ _ c.if-b-gt57.true, and-false)
+  within : (n : ℕ) → n ≡ v * 10 + (b - 48) → zero_led v i ≡ false → digit b ≡ true → n ≤ most → Some n ≡ grow_of most v i b
+  unfolding grow_of
+  within n e z d h = simp (← e, z, d, le-leb _ _ h)
 
-pub returns-then-zero_led : goal.returns-then-zero_led
+pub returns-then-i-gt0 : goal.returns-then-i-gt0
 unfolding grow_of
-returns-then-zero_led c = simp (sym c.zero_led.ensures ∙ c.if-zero_led.true)
+returns-then-i-gt0 c = search rules
 
-pub returns-then-most-v : goal.returns-then-most-v
+pub returns-then-not-is_ascii_digit : goal.returns-then-not-is_ascii_digit
 unfolding grow_of
-returns-then-most-v c =
-    let a = c.args in let h : a.most < a.v * 10 + (a.b - 48) = omega arith in simp (lt-leb _ _ h, and-false)
+returns-then-not-is_ascii_digit c = simp (sym c.if-not-is_ascii_digit.ensures.value, and-false)
 
-pub returns-then-most-tens : goal.returns-then-most-tens
-unfolding grow_of
-returns-then-most-tens c =
-    let a = c.args in let h : a.most < a.v * 10 + (a.b - 48) = omega arith in
-    simp (lt-leb _ _ h, and-false)
+pub returns-in_err-checked_mul : goal.returns-in_err-checked_mul
+returns-in_err-checked_mul c =
+    c.from_residual.ensures ∙ over _ _ _ _ (omega (arith, c.in_err-checked_mul.ensures))
 
-pub returns : goal.returns
-unfolding grow_of
-returns c =
-    let a = c.args in let h : a.v * 10 + (a.b - 48) ≤ a.most = omega arith in
-    let z = sym c.zero_led.ensures ∙ c.if-zero_led.false in
-    simp (le-leb _ _ c.if-b-lt48.false, le-leb _ _ c.if-b-gt57.false, z, le-leb _ _ h, c.wide-digit.ensures)
+pub returns-in_err-grown : goal.returns-in_err-grown
+returns-in_err-grown c =
+    c.from_residual-in_err-grown.ensures ∙ over _ _ _ _ (omega (arith, c.in_err-grown.ensures, c.in_ok-checked_mul.ensures, c.from.ensures))
+
+pub returns-then-grown-most : goal.returns-then-grown-most
+returns-then-grown-most c =
+    within _ _ _ _ _ (omega (arith, c.in_ok-grown.ensures, c.in_ok-checked_mul.ensures, c.from.ensures)) (search rules)
+    (sym c.if-not-is_ascii_digit.ensures.value)
+    c.if-grown-most.true
+
+pub returns-else-grown-most : goal.returns-else-grown-most
+returns-else-grown-most c = over _ _ _ _ (omega (arith, c.in_ok-grown.ensures, c.in_ok-checked_mul.ensures, c.from.ensures))
