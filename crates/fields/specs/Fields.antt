@@ -27,7 +27,7 @@ number_from v (b ∷ bs) = number_from (v * 10 + (b - zero_digit)) bs
 abbrev pub number_of : List ℕ → ℕ
 number_of bs = number_from 0 bs
 
--- the bytes before the first comma, or all where there is None
+-- the bytes before the first comma, or all where there is none
 unfoldable pub front : List ℕ → List ℕ
 front [] = []
 front (b ∷ bs) = cond (eqb b comma) [] (b ∷ front bs)

@@ -72,6 +72,3 @@ returns-in-Attr c = simp c.in-Attr.is
 
 pub returns-in-Wake : goal.returns-in-Wake
 returns-in-Wake c = simp c.in-Wake.is
-
-pub returns-in-Other : goal.returns-in-Other
-returns-in-Other c = simp c.in-Other.is
