@@ -78,7 +78,7 @@ fn put_report(out: &mut [u8], at: usize, t: &Table) -> usize {
 // The primings, in the order of their ids.
 fn put_primings(out: &mut [u8], at: usize, t: &Table) -> usize {
     let mut k = put_word(out, at, b"primings=");
-    let mut here = priming_from(t, 0);
+    let mut here = priming_after(t, None);
     if here.is_none() {
         return put_word(out, k, b"\r");
     }
@@ -86,9 +86,9 @@ fn put_primings(out: &mut [u8], at: usize, t: &Table) -> usize {
         let Some(x) = here else {
             return k;
         };
-        here = priming_from(t, u64::from(x.id) + 1);
+        here = priming_after(t, Some(x.id));
         let end = if here.is_some() { b';' } else { b'\r' };
-        k = put_open(out, k, &x, end);
+        k = put_open(out, k, x, end);
     }
     k
 }
@@ -125,12 +125,11 @@ fn put_open(out: &mut [u8], at: usize, x: &Subscription, end: u8) -> usize {
     put_numbers(out, a, &numbers, b':', end)
 }
 
-// The priming with the least id from `from` on.
-fn priming_from(t: &Table, from: u64) -> Option<Subscription> {
+// The priming with the least id above `last`, or of all.
+fn priming_after(t: &Table, last: Option<u32>) -> Option<&Subscription> {
     open_ones(t)
         .iter()
-        .copied()
-        .filter(|x| !x.reporting && from <= u64::from(x.id))
+        .filter(|x| !x.reporting && last.is_none_or(|id| id < x.id))
         .min_by_key(|x| x.id)
 }
 

@@ -121,7 +121,7 @@ fn answered(
 
 // The answer to a line.
 fn answer(t: Table, s: &[u8]) -> Answered {
-    calls::answer(t, s).unwrap_or(bad(t))
+    calls::answer(t, s).unwrap_or_else(|| bad(t))
 }
 
 // An answer is put behind what is filled.
