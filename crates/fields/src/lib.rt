@@ -64,6 +64,7 @@ pub fn read_field(s: &[u8], most: u64) -> Option<Field>
 }
 
 // The digits of `v`, which are `i` bytes, with `b` behind them.
+#[tactic(auto, unfolding(crate::specs::Inner::grow_of))]
 fn grow(v: u64, i: usize, b: u8, most: u64) -> Option<u64>
     ensures { result ≡ grow_of most v i b }
 {

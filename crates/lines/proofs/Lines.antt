@@ -1,11 +1,9 @@
--- What the line reader's proofs cite: `begins` goes from byte to byte as the library's `starts_with` does, and a line is made by its kind.
+-- What the line reader's proofs cite: `begins` goes from byte to byte as the library's `starts_with` does.
 -- Assumes nothing.
-use Rattle.std.proofs.Common.{Option, Some, ◌≡◌, ℕ, Bool, true, false, List, [], ◌∷◌, ◌&&◌, eqb, length, drop, refl, sym, ap, ◌∙◌}
+use Rattle.std.proofs.Common.{◌≡◌, ℕ, Bool, true, false, List, [], ◌∷◌, ◌&&◌, eqb, refl, sym, ap, ◌∙◌}
 use Rattle.std.specs.List.{starts_with}
 use borrow.Author.Tests.{eq-eqb, ne_eqb, eqb-true, eqb-false}
-use Rattle.fields.specs.Rows.{numbers_of}
-use Rattle.lines.specs.Lines.{word_of, begins, kind_of, widths_of, made, line_of}
-use Rattle.lines.specs.declared.Kind.{Kind}
+use Rattle.lines.specs.Lines.{begins}
 
 -- a test of equality either way round
 same : (x b : ℕ) → eqb x b ≡ eqb b x
@@ -20,13 +18,3 @@ unfolding begins
 starts_begins [] s = refl
 starts_begins (x ∷ xs) [] = refl
 starts_begins (x ∷ xs) (b ∷ s) = ap (λ (t : Bool). t && starts_with eqb s xs) (same x b) ∙ ap (λ (t : Bool). eqb b x && t) (starts_begins xs s)
-
--- a line is what its kind makes of the fields behind its word
-pub line_made : (s word ws : List ℕ) (kind : Kind) (n : Option (List ℕ))
-    → Some kind ≡ kind_of s
-    → word ≡ word_of kind
-    → ws ≡ widths_of kind
-    → n ≡ numbers_of ws (drop (length word) s)
-    → made kind n ≡ line_of s
-unfolding line_of
-line_made s word ws kind n e f g h = rw (sym e, h, f, g)

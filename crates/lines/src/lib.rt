@@ -84,6 +84,7 @@ pub const BITS32: u64 = 0xffff_ffff;
 pub const BITS64: u64 = 0xffff_ffff_ffff_ffff;
 
 // The line that all of `s` is.
+#[tactic(auto, unfolding(crate::specs::Lines::line_of))]
 pub fn read_line(s: &[u8]) -> Line
     ensures { result ≡ line_of s.now }
 {

@@ -33,6 +33,7 @@ pub struct Ran {
 const CAPACITY: u8 = 80;
 
 // The begin of an input.
+#[tactic(auto, unfolding(crate::specs::Runs::start_of))]
 pub fn start() -> Session
     ensures { result ≡ start_of }
 {
