@@ -62,6 +62,7 @@ enum Kind {
     Wake,
 }
 
+// In the order in which document 01 lists them.
 const KINDS: [Kind; 7] = [
     Kind::New,
     Kind::Add,

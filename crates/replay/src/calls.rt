@@ -4,7 +4,7 @@ use super::words::narrow;
 use answers::{Change, flag};
 use fields::{PLACES, read_fields};
 use instants::Instant;
-use lines::{BITS8, BITS16, BITS32, BITS64, FLAG, starts};
+use lines::{BITS8, BITS16, BITS32, BITS64, FLAG};
 use places::{Admission, Completion, HandOut, Hearing, Table};
 use subscription::{Request, Settings};
 use time::KeepAlive;
@@ -23,22 +23,22 @@ const DONE: [u64; 2] = [BITS32, BITS8];
 
 // The line `s` at the table `t`; none, if it is a bad line.
 pub(crate) fn answer(t: Table, s: &[u8]) -> Option<Answered> {
-    if starts(s, b"new,") {
+    if s.starts_with(b"new,") {
         return Some(new(t, read_fields(s, 4, &NEW)?));
     }
-    if starts(s, b"add,") {
+    if s.starts_with(b"add,") {
         return Some(add(t, read_fields(s, 4, &ADD)?));
     }
-    if starts(s, b"resume,") {
+    if s.starts_with(b"resume,") {
         return Some(resume(t, read_fields(s, 7, &RESUME)?));
     }
-    if starts(s, b"note,") {
+    if s.starts_with(b"note,") {
         return Some(note(t, read_fields(s, 5, &NOTE)?));
     }
-    if starts(s, b"report,") {
+    if s.starts_with(b"report,") {
         return Some(report(t, read_fields(s, 7, &REPORT)?));
     }
-    if starts(s, b"done,") {
+    if s.starts_with(b"done,") {
         return Some(done(t, read_fields(s, 5, &DONE)?));
     }
     if s == b"purge".as_slice() {

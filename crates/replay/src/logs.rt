@@ -2,7 +2,7 @@
 use super::replies::{Answered, none, refused};
 use changes::Changed;
 use fields::{PLACES, read_fields};
-use lines::{BITS64, starts};
+use lines::BITS64;
 use places::Table;
 use refusal::Refusal;
 
@@ -10,10 +10,10 @@ const IDENTITY: [u64; 1] = [BITS64];
 
 // The line `s` at the table `t`; none, if it is a bad line. Every other line leaves the table as it is.
 pub(crate) fn answer(t: Table, s: &[u8]) -> Option<Answered> {
-    if starts(s, b"setidentity,") {
+    if s.starts_with(b"setidentity,") {
         return Some(set_identity(t, read_fields(s, 12, &IDENTITY)?));
     }
-    if starts(s, b"logpurge,") {
+    if s.starts_with(b"logpurge,") {
         return Some(log_purge(t, read_fields(s, 9, &IDENTITY)?));
     }
     if s == b"logempty".as_slice() {

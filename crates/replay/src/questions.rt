@@ -5,7 +5,7 @@ use answers::{Mark, Told, flag};
 use changes::ChangedAttrs;
 use fields::{PLACES, read_fields};
 use instants::Instant;
-use lines::{BITS8, BITS16, BITS32, BITS64, FLAG, starts};
+use lines::{BITS8, BITS16, BITS32, BITS64, FLAG};
 use places::{Alive, Loaded, Moment, Table};
 use time::KeepAlive;
 
@@ -27,25 +27,25 @@ const SINCE: [u64; 1] = [BITS64];
 
 // The line `s` at the table `t`; none, if it is a bad line.
 pub(crate) fn reply(t: Table, s: &[u8]) -> Option<Reply> {
-    if starts(s, b"attr,") {
+    if s.starts_with(b"attr,") {
         return Some(attribute(t, read_fields(s, 5, &ATTR)?));
     }
-    if starts(s, b"sendempty,") {
+    if s.starts_with(b"sendempty,") {
         return Some(send_empty(t, read_fields(s, 10, &SEND_EMPTY)?));
     }
-    if starts(s, b"wake,") {
+    if s.starts_with(b"wake,") {
         return Some(wake(t, read_fields(s, 5, &WAKE)?));
     }
-    if starts(s, b"any,") {
+    if s.starts_with(b"any,") {
         return Some(any(t, read_fields(s, 4, &ANY)?));
     }
     if s == b"keepalive".as_slice() {
         return Some(alive(table::next_keep_alive_at(t)));
     }
-    if starts(s, b"stats,") {
+    if s.starts_with(b"stats,") {
         return Some(statistics(t, read_fields(s, 6, &STATS)?));
     }
-    if starts(s, b"has,") {
+    if s.starts_with(b"has,") {
         return Some(has(t, read_fields(s, 4, &HAS)?));
     }
     asked_of_the_log(t.log, s)
@@ -53,10 +53,10 @@ pub(crate) fn reply(t: Table, s: &[u8]) -> Option<Reply> {
 
 // The same, of questions that go to the log alone.
 fn asked_of_the_log(log: ChangedAttrs, s: &[u8]) -> Option<Reply> {
-    if starts(s, b"changed,") {
+    if s.starts_with(b"changed,") {
         return Some(changed(log, read_fields(s, 8, &CHANGED)?));
     }
-    if starts(s, b"anysince,") {
+    if s.starts_with(b"anysince,") {
         return Some(any_since(log, read_fields(s, 9, &SINCE)?));
     }
     if s == b"watermark".as_slice() {

@@ -5,7 +5,7 @@ use answers::flag;
 use choices::Choice;
 use fields::read_fields;
 use instants::Instant;
-use lines::{BITS8, BITS32, BITS64, starts};
+use lines::{BITS8, BITS32, BITS64};
 use places::{Table, Waking};
 
 const ALL: [u64; 1] = [BITS8];
@@ -20,23 +20,23 @@ const EXPIRED: [u64; 2] = [BITS64, BITS8];
 
 // The line `s` at the table `t`; none, if it is a bad line. The reason is the last field.
 pub(crate) fn answer(t: Table, s: &[u8]) -> Option<Answered> {
-    if starts(s, b"remove,all,") {
+    if s.starts_with(b"remove,all,") {
         let v = read_fields(s, 11, &ALL)?;
         return Some(removed(t, Choice::All, v[0]));
     }
-    if starts(s, b"remove,fabric,") {
+    if s.starts_with(b"remove,fabric,") {
         let v = read_fields(s, 14, &FABRIC)?;
         return Some(removed(t, Choice::Fabric(narrow(v[0])), v[1]));
     }
-    if starts(s, b"remove,peer,") {
+    if s.starts_with(b"remove,peer,") {
         let v = read_fields(s, 12, &PEER)?;
         return Some(removed(t, Choice::Peer(narrow(v[0]), v[1]), v[2]));
     }
-    if starts(s, b"remove,id,") {
+    if s.starts_with(b"remove,id,") {
         let v = read_fields(s, 10, &ID)?;
         return Some(removed(t, Choice::Id(narrow(v[0])), v[1]));
     }
-    if starts(s, b"remove,expired,") {
+    if s.starts_with(b"remove,expired,") {
         let v = read_fields(s, 15, &EXPIRED)?;
         return Some(removed(t, Choice::ExpiredAt(Instant::at(v[0])), v[1]));
     }

@@ -6,7 +6,7 @@ use super::replies::{Answered, Reply, VALUES, acted, refused};
 use super::words::narrow;
 use answers::flag;
 use fields::{read_field, read_fields};
-use lines::{BITS8, BITS64, FLAG, starts};
+use lines::{BITS8, BITS64, FLAG};
 use places::Table;
 use round::{Ending, Rounding};
 use subscription::Settings;
@@ -25,7 +25,7 @@ const UNWRITTEN: u32 = 900_000_000;
 
 // The line `s` at the table `t`; none, if it is a bad line.
 pub(crate) fn answer(t: Table, s: &[u8]) -> Option<Answered> {
-    if starts(s, b"round,") {
+    if s.starts_with(b"round,") {
         return round_line(t, s);
     }
     super::logs::answer(t, s)
@@ -84,8 +84,8 @@ fn made_with(t: Table, at: Settings, outcomes: &[u8], ids: &mut [u32]) -> Answer
 // The slice of ids before the round.
 fn unwritten() -> [u32; SLOTS] {
     let mut ids = [0u32; SLOTS];
-    for i in 0..255u32 {
-        ids[i as usize] = UNWRITTEN + i;
+    for (id, n) in ids.iter_mut().zip(UNWRITTEN..) {
+        *id = n;
     }
     ids
 }

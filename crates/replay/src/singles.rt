@@ -5,7 +5,7 @@ use answers::flag;
 use changes::ChangedAttrs;
 use fields::{PLACES, read_fields};
 use instants::Instant;
-use lines::{BITS8, BITS16, BITS64, FLAG, starts};
+use lines::{BITS8, BITS16, BITS64, FLAG};
 use subscription::{Settings, Subscription};
 use time::KeepAlive;
 
@@ -16,7 +16,7 @@ const SINGLE: [u64; 11] = [
 
 // The line `s` with the log; none, if it is a bad line.
 pub(crate) fn reply(log: ChangedAttrs, s: &[u8]) -> Option<Reply> {
-    if starts(s, b"single,") {
+    if s.starts_with(b"single,") {
         return Some(single(log, read_fields(s, 7, &SINGLE)?));
     }
     super::times::reply(s)

@@ -4,7 +4,7 @@ use super::words::narrow;
 use answers::flag;
 use fields::{PLACES, read_fields};
 use instants::Instant;
-use lines::{BITS8, BITS16, BITS32, BITS64, FLAG, starts};
+use lines::{BITS8, BITS16, BITS32, BITS64, FLAG};
 use time::KeepAlive;
 
 const BACKOFF: [u64; 2] = [BITS8, BITS16];
@@ -19,19 +19,19 @@ const EXPIRED: [u64; 3] = [BITS64, BITS16, BITS64];
 
 // The line `s`; none, if it is a bad line.
 pub(crate) fn reply(s: &[u8]) -> Option<Reply> {
-    if starts(s, b"backoff,") {
+    if s.starts_with(b"backoff,") {
         return Some(backoff(read_fields(s, 8, &BACKOFF)?));
     }
-    if starts(s, b"dueafter,") {
+    if s.starts_with(b"dueafter,") {
         return Some(due_after(read_fields(s, 9, &DUE_AFTER)?));
     }
-    if starts(s, b"icdmax,") {
+    if s.starts_with(b"icdmax,") {
         return Some(icd_max(read_fields(s, 7, &ICD_MAX)?));
     }
-    if starts(s, b"submax,") {
+    if s.starts_with(b"submax,") {
         return Some(sub_max(read_fields(s, 7, &SUB_MAX)?));
     }
-    if starts(s, b"expired,") {
+    if s.starts_with(b"expired,") {
         return Some(expired(read_fields(s, 8, &EXPIRED)?));
     }
     None

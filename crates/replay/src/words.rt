@@ -1,6 +1,6 @@
-// Fields of a line as numbers of their widths.
+// Fields of a line as numbers of their widths. Every number is taken; which width a field has is said where it is read.
 
-// A field that was read within its width, as a number of that width.
+// A field as a number of the width that it was read within; any number above that width would be 0.
 pub(crate) fn narrow<T: TryFrom<u64> + Default>(x: u64) -> T
 where
     T: Drop,
