@@ -1,10 +1,10 @@
 // The lines of the calls by which a table changes.
-use super::replies::{Answered, Reply, bad, none, one, refused, three, two};
-use super::words::{is_word, low8, low16, low32};
+use super::replies::{Answered, Reply, none, one, refused, three, two};
+use super::words::narrow;
 use answers::{Change, flag};
-use fields::{Numbers, PLACES, read_fields};
+use fields::{PLACES, read_fields};
 use instants::Instant;
-use lines::{BITS8, BITS16, BITS32, BITS64, FLAG, starts};
+use lines::{BITS8, BITS16, BITS32, BITS64, FLAG};
 use places::{Admission, Completion, HandOut, Hearing, Table};
 use subscription::{Request, Settings};
 use time::KeepAlive;
@@ -21,45 +21,39 @@ const REPORT: [u64; 4] = [BITS64, BITS64, FLAG, FLAG];
 
 const DONE: [u64; 2] = [BITS32, BITS8];
 
-// The line `s` at the table `t`, if it is one of these.
-pub(crate) fn answer(t: Table, s: &[u8]) -> Answered {
-    if starts(s, b"new,") {
-        return new(t, read_fields(s, 4, &NEW));
+// The line `s` at the table `t`; none, if it is a bad line.
+pub(crate) fn answer(t: Table, s: &[u8]) -> Option<Answered> {
+    if s.starts_with(b"new,") {
+        return Some(new(t, read_fields(s, 4, &NEW)?));
     }
-    if starts(s, b"add,") {
-        return add(t, read_fields(s, 4, &ADD));
+    if s.starts_with(b"add,") {
+        return Some(add(t, read_fields(s, 4, &ADD)?));
     }
-    if starts(s, b"resume,") {
-        return resume(t, read_fields(s, 7, &RESUME));
+    if s.starts_with(b"resume,") {
+        return Some(resume(t, read_fields(s, 7, &RESUME)?));
     }
-    if starts(s, b"note,") {
-        return note(t, read_fields(s, 5, &NOTE));
+    if s.starts_with(b"note,") {
+        return Some(note(t, read_fields(s, 5, &NOTE)?));
     }
-    if starts(s, b"report,") {
-        return report(t, read_fields(s, 7, &REPORT));
+    if s.starts_with(b"report,") {
+        return Some(report(t, read_fields(s, 7, &REPORT)?));
     }
-    if starts(s, b"done,") {
-        return done(t, read_fields(s, 5, &DONE));
+    if s.starts_with(b"done,") {
+        return Some(done(t, read_fields(s, 5, &DONE)?));
     }
-    if is_word(s, b"purge") {
-        return purge(t);
+    if s == b"purge".as_slice() {
+        return Some(purge(t));
     }
     super::removals::answer(t, s)
 }
 
 // A refused new table leaves the one that was there.
-fn new(t: Table, n: Numbers) -> Answered {
-    if !n.all {
-        return bad(t);
-    }
-    let v = n.at;
-    let r = table::new(low8(v[0]));
-    let answer = r.answer;
-    let table = r.table;
-    match answer {
+fn new(t: Table, v: [u64; PLACES]) -> Answered {
+    let r = table::new(narrow(v[0]));
+    match r.answer {
         Change::Done => Answered {
             reply: one(v[0]),
-            table: table,
+            table: r.table,
         },
         Change::Refused(why) => Answered {
             reply: refused(why),
@@ -68,31 +62,19 @@ fn new(t: Table, n: Numbers) -> Answered {
     }
 }
 
-fn add(t: Table, n: Numbers) -> Answered {
-    if !n.all {
-        return bad(t);
-    }
-    let v = n.at;
+fn add(t: Table, v: [u64; PLACES]) -> Answered {
     let r = table::add(t, request(v), v[5], Instant::at(v[0]));
-    let answer = r.answer;
-    let table = r.table;
     Answered {
-        reply: admitted(answer),
-        table: table,
+        reply: admitted(r.answer),
+        table: r.table,
     }
 }
 
-fn resume(t: Table, n: Numbers) -> Answered {
-    if !n.all {
-        return bad(t);
-    }
-    let v = n.at;
-    let r = table::resume(t, low32(v[0]), request(v), v[5]);
-    let answer = r.answer;
-    let table = r.table;
+fn resume(t: Table, v: [u64; PLACES]) -> Answered {
+    let r = table::resume(t, narrow(v[0]), request(v), v[5]);
     Answered {
-        reply: admitted(answer),
-        table: table,
+        reply: admitted(r.answer),
+        table: r.table,
     }
 }
 
@@ -100,10 +82,10 @@ fn resume(t: Table, n: Numbers) -> Answered {
 fn request(v: [u64; PLACES]) -> Request {
     Request {
         peer: v[2],
-        shortest: low16(v[3]),
-        longest: low16(v[4]),
-        rx: low16(v[6]),
-        fabric: low8(v[1]),
+        shortest: narrow(v[3]),
+        longest: narrow(v[4]),
+        rx: narrow(v[6]),
+        fabric: narrow(v[1]),
     }
 }
 
@@ -114,17 +96,11 @@ fn admitted(answer: Admission) -> Reply {
     }
 }
 
-fn note(t: Table, n: Numbers) -> Answered {
-    if !n.all {
-        return bad(t);
-    }
-    let v = n.at;
-    let r = table::note(t, low16(v[0]), low32(v[1]), low32(v[2]));
-    let answer = r.answer;
-    let table = r.table;
+fn note(t: Table, v: [u64; PLACES]) -> Answered {
+    let r = table::note(t, narrow(v[0]), narrow(v[1]), narrow(v[2]));
     Answered {
-        reply: noted(answer),
-        table: table,
+        reply: noted(r.answer),
+        table: r.table,
     }
 }
 
@@ -136,17 +112,11 @@ fn noted(answer: Hearing) -> Reply {
     }
 }
 
-fn report(t: Table, n: Numbers) -> Answered {
-    if !n.all {
-        return bad(t);
-    }
-    let v = n.at;
+fn report(t: Table, v: [u64; PLACES]) -> Answered {
     let r = table::report(t, settings(v));
-    let answer = r.answer;
-    let table = r.table;
     Answered {
-        reply: reported(answer),
-        table: table,
+        reply: reported(r.answer),
+        table: r.table,
     }
 }
 
@@ -169,17 +139,11 @@ fn reported(answer: HandOut) -> Reply {
     }
 }
 
-fn done(t: Table, n: Numbers) -> Answered {
-    if !n.all {
-        return bad(t);
-    }
-    let v = n.at;
-    let r = table::complete(t, low32(v[0]), low8(v[1]));
-    let answer = r.answer;
-    let table = r.table;
+fn done(t: Table, v: [u64; PLACES]) -> Answered {
+    let r = table::complete(t, narrow(v[0]), narrow(v[1]));
     Answered {
-        reply: completed(answer),
-        table: table,
+        reply: completed(r.answer),
+        table: r.table,
     }
 }
 
@@ -193,11 +157,9 @@ fn completed(answer: Completion) -> Reply {
 
 fn purge(t: Table) -> Answered {
     let r = table::purge_reported_changes(t);
-    let answer = r.answer;
-    let table = r.table;
     Answered {
-        reply: changed(answer),
-        table: table,
+        reply: changed(r.answer),
+        table: r.table,
     }
 }
 

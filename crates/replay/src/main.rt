@@ -31,159 +31,109 @@ const CHUNK: usize = 65536;
 // The capacity of the table at the start.
 const CAPACITY: u8 = 80;
 
-// What goes on from line to line: the table, the line that is being read, how many bytes of the output buffer are filled, and whether
-// there is more to read.
+// What goes on from line to line: the table, the line that is being read, and how many bytes of the output buffer are filled.
 #[derive(Clone, Copy)]
 struct State {
     table: Table,
     reading: Reading,
     filled: usize,
-    on: bool,
 }
 
-// Turn by turn to the end. A count falls at each turn, so that it ends whatever is read.
+// Read by read to the end. The reads are counted, so that it ends whatever is read. A failed read ends the program: the answers
+// gathered so far are written, and the line that it cut short is not answered.
 fn main(rt: HostRuntime) -> io::Result<()> {
     let mut input = rt.reader();
     let mut output = io::writer(&rt);
+    let mut chunk = [0u8; CHUNK];
     let mut held = [0u8; LINE];
     let mut out = [0u8; CHUNK];
     let new = table::new(CAPACITY);
-    let table = new.table;
     let mut state = State {
-        table: table,
+        table: new.table,
         reading: start(u64::MAX),
         filled: 0,
-        on: true,
     };
-    let mut turns = u64::MAX;
-    while 0 < turns {
-        let next = turn(&mut input, &mut output, state, &mut held, &mut out)?;
-        state = next;
-        if !next.on {
-            return Ok(());
+    for _ in 0..u64::MAX {
+        match input.read(&mut chunk) {
+            Err(e) => {
+                flushed(&mut output, &mut state, &out)?;
+                return Err(e);
+            }
+            Ok(0) => {
+                ended(&mut output, &mut state, &held, &mut out)?;
+                return flushed(&mut output, &mut state, &out);
+            }
+            Ok(n) => fed(&mut output, &mut state, &mut held, &mut out, &chunk[..n])?,
         }
-        turns -= 1;
     }
     Ok(())
-}
-
-// One read, and the lines that end in it. A failed read ends the program: the answers gathered so far are written, and the line that it
-// cut short is not answered.
-fn turn(
-    input: &mut impl Read,
-    output: &mut impl Write,
-    state: State,
-    held: &mut [u8],
-    out: &mut [u8],
-) -> io::Result<State> {
-    let mut chunk = [0u8; CHUNK];
-    match input.read(&mut chunk) {
-        Err(e) => {
-            flushed(output, stopped(state), out)?;
-            Err(e)
-        }
-        Ok(0) => {
-            let last = ended(output, state, held, out)?;
-            flushed(output, stopped(last), out)
-        }
-        Ok(n) => fed(output, state, held, out, &chunk[..n]),
-    }
 }
 
 // The lines that end in `s`.
 fn fed(
     output: &mut impl Write,
-    state: State,
+    state: &mut State,
     held: &mut [u8],
     out: &mut [u8],
     s: &[u8],
-) -> io::Result<State> {
-    let mut now = state;
-    let mut at: usize = 0;
-    while at < s.len() {
-        let reading = now.reading;
-        let t = scan(reading, held, &s[at..]);
-        at += t.used;
-        let next = t.reading;
-        let found = t.found;
-        let after = answered(output, with_reading(now, next), held, out, found)?;
-        now = after;
-        if !after.on {
-            return Ok(after);
-        }
+) -> io::Result<()> {
+    let mut rest = s;
+    while !rest.is_empty() {
+        let t = scan(state.reading, held, rest);
+        state.reading = t.reading;
+        rest = &rest[t.used..];
+        answered(output, state, held, out, t.found)?;
     }
-    Ok(now)
+    Ok(())
 }
 
 // The input's end.
-fn ended(output: &mut impl Write, state: State, held: &[u8], out: &mut [u8]) -> io::Result<State> {
-    let reading = state.reading;
-    let t = close(reading);
-    let next = t.reading;
-    let found = t.found;
-    answered(output, with_reading(state, next), held, out, found)
+fn ended(
+    output: &mut impl Write,
+    state: &mut State,
+    held: &[u8],
+    out: &mut [u8],
+) -> io::Result<()> {
+    let t = close(state.reading);
+    state.reading = t.reading;
+    answered(output, state, held, out, t.found)
 }
 
-// The answer to a line, if one has ended.
+// The answer to a line, if one has ended. The buffer is written out once it is half full: the other half has room for the longest
+// answer, which takes less than 21,000 bytes.
 fn answered(
     output: &mut impl Write,
-    state: State,
+    state: &mut State,
     held: &[u8],
     out: &mut [u8],
     found: Found,
-) -> io::Result<State> {
-    let table = state.table;
+) -> io::Result<()> {
     match found {
-        Found::Nothing => Ok(state),
-        Found::Bad => room_made(output, told(state, bad(table), out), out),
-        Found::Whole(n) => room_made(output, told(state, answer(table, held, n), out), out),
+        Found::Nothing => return Ok(()),
+        Found::Bad => told(state, bad(state.table), out),
+        Found::Whole(n) => told(state, answer(state.table, &held[..n.min(held.len())]), out),
     }
-}
-
-// The answer to the line that is the first `n` bytes held.
-fn answer(t: Table, held: &[u8], n: usize) -> Answered {
-    if n <= held.len() {
-        return calls::answer(t, &held[..n]);
-    }
-    calls::answer(t, held)
-}
-
-// The state with an answer put behind what is filled.
-fn told(mut state: State, a: Answered, out: &mut [u8]) -> State {
-    let reading = state.reading;
-    let reply = a.reply;
-    let table = a.table;
-    let k = replies::put_reply(out, state.filled, reading.number, reply);
-    state.filled = dumps::put_state(out, k, table);
-    state.table = table;
-    state
-}
-
-// The buffer is written out once it is half full: the other half has room for the longest answer, which takes less than 21,000 bytes.
-fn room_made(output: &mut impl Write, state: State, out: &[u8]) -> io::Result<State> {
     if state.filled < out.len() / 2 {
-        return Ok(state);
+        return Ok(());
     }
     flushed(output, state, out)
 }
 
+// The answer to a line.
+fn answer(t: Table, s: &[u8]) -> Answered {
+    calls::answer(t, s).unwrap_or_else(|| bad(t))
+}
+
+// An answer is put behind what is filled.
+fn told(state: &mut State, a: Answered, out: &mut [u8]) {
+    let k = replies::put_reply(out, state.filled, state.reading.number, &a.reply);
+    state.filled = dumps::put_state(out, k, &a.table);
+    state.table = a.table;
+}
+
 // The filled bytes written. A failed write ends the program.
-fn flushed(output: &mut impl Write, mut state: State, out: &[u8]) -> io::Result<State> {
-    let n = state.filled;
-    if out.len() < n {
-        return Ok(stopped(state));
-    }
-    output.write_all(&out[..n])?;
+fn flushed(output: &mut impl Write, state: &mut State, out: &[u8]) -> io::Result<()> {
+    output.write_all(&out[..state.filled.min(out.len())])?;
     state.filled = 0;
-    Ok(state)
-}
-
-fn stopped(mut state: State) -> State {
-    state.on = false;
-    state
-}
-
-fn with_reading(mut state: State, reading: Reading) -> State {
-    state.reading = reading;
-    state
+    Ok(())
 }

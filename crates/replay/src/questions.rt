@@ -1,13 +1,12 @@
 // The lines of questions to a table and to its log.
 use super::replies::{Reply, one, refused, three, two};
-use super::words::{is_word, low8, low16, low32};
+use super::words::narrow;
 use answers::{Mark, Told, flag};
 use changes::ChangedAttrs;
-use fields::{Numbers, read_fields};
+use fields::{PLACES, read_fields};
 use instants::Instant;
-use lines::{BITS8, BITS16, BITS32, BITS64, FLAG, starts};
+use lines::{BITS8, BITS16, BITS32, BITS64, FLAG};
 use places::{Alive, Loaded, Moment, Table};
-use refusal::Refusal;
 use time::KeepAlive;
 
 const ATTR: [u64; 4] = [BITS32, BITS16, BITS32, BITS32];
@@ -26,78 +25,62 @@ const CHANGED: [u64; 4] = [BITS16, BITS32, BITS32, BITS64];
 
 const SINCE: [u64; 1] = [BITS64];
 
-// The line `s` at the table `t`, if it is one of these.
-pub(crate) fn reply(t: Table, s: &[u8]) -> Reply {
-    if starts(s, b"attr,") {
-        return attribute(t, read_fields(s, 5, &ATTR));
+// The line `s` at the table `t`; none, if it is a bad line.
+pub(crate) fn reply(t: Table, s: &[u8]) -> Option<Reply> {
+    if s.starts_with(b"attr,") {
+        return Some(attribute(t, read_fields(s, 5, &ATTR)?));
     }
-    if starts(s, b"sendempty,") {
-        return send_empty(t, read_fields(s, 10, &SEND_EMPTY));
+    if s.starts_with(b"sendempty,") {
+        return Some(send_empty(t, read_fields(s, 10, &SEND_EMPTY)?));
     }
-    if starts(s, b"wake,") {
-        return wake(t, read_fields(s, 5, &WAKE));
+    if s.starts_with(b"wake,") {
+        return Some(wake(t, read_fields(s, 5, &WAKE)?));
     }
-    if starts(s, b"any,") {
-        return any(t, read_fields(s, 4, &ANY));
+    if s.starts_with(b"any,") {
+        return Some(any(t, read_fields(s, 4, &ANY)?));
     }
-    if is_word(s, b"keepalive") {
-        return alive(table::next_keep_alive_at(t));
+    if s == b"keepalive".as_slice() {
+        return Some(alive(table::next_keep_alive_at(t)));
     }
-    if starts(s, b"stats,") {
-        return statistics(t, read_fields(s, 6, &STATS));
+    if s.starts_with(b"stats,") {
+        return Some(statistics(t, read_fields(s, 6, &STATS)?));
     }
-    if starts(s, b"has,") {
-        return has(t, read_fields(s, 4, &HAS));
+    if s.starts_with(b"has,") {
+        return Some(has(t, read_fields(s, 4, &HAS)?));
     }
     asked_of_the_log(t.log, s)
 }
 
 // The same, of questions that go to the log alone.
-fn asked_of_the_log(log: ChangedAttrs, s: &[u8]) -> Reply {
-    if starts(s, b"changed,") {
-        return changed(log, read_fields(s, 8, &CHANGED));
+fn asked_of_the_log(log: ChangedAttrs, s: &[u8]) -> Option<Reply> {
+    if s.starts_with(b"changed,") {
+        return Some(changed(log, read_fields(s, 8, &CHANGED)?));
     }
-    if starts(s, b"anysince,") {
-        return any_since(log, read_fields(s, 9, &SINCE));
+    if s.starts_with(b"anysince,") {
+        return Some(any_since(log, read_fields(s, 9, &SINCE)?));
     }
-    if is_word(s, b"watermark") {
-        return mark(log.watermark());
+    if s == b"watermark".as_slice() {
+        return Some(mark(log.watermark()));
     }
     super::singles::reply(log, s)
 }
 
-fn attribute(t: Table, n: Numbers) -> Reply {
-    if !n.all {
-        return refused(Refusal::BadLine);
-    }
-    let v = n.at;
-    told(table::should_report_attr(t, low32(v[0]), low16(v[1]), low32(v[2]), low32(v[3])))
+fn attribute(t: Table, v: [u64; PLACES]) -> Reply {
+    told(table::should_report_attr(t, narrow(v[0]), narrow(v[1]), narrow(v[2]), narrow(v[3])))
 }
 
-fn send_empty(t: Table, n: Numbers) -> Reply {
-    if !n.all {
-        return refused(Refusal::BadLine);
-    }
-    let v = n.at;
-    told(table::should_send_if_empty(t, low32(v[0]), KeepAlive::of(v[1] == FLAG)))
+fn send_empty(t: Table, v: [u64; PLACES]) -> Reply {
+    told(table::should_send_if_empty(t, narrow(v[0]), KeepAlive::of(v[1] == FLAG)))
 }
 
-fn wake(t: Table, n: Numbers) -> Reply {
-    if !n.all {
-        return refused(Refusal::BadLine);
-    }
-    let v = n.at;
+fn wake(t: Table, v: [u64; PLACES]) -> Reply {
     match table::next_report_at(t, v[0], KeepAlive::of(v[1] == FLAG)) {
         Moment::At(x) => one(x.ms),
         Moment::Refused(why) => refused(why),
     }
 }
 
-fn any(t: Table, n: Numbers) -> Reply {
-    if !n.all {
-        return refused(Refusal::BadLine);
-    }
-    let v = n.at;
+fn any(t: Table, v: [u64; PLACES]) -> Reply {
     told(table::any_reportable(t, Instant::at(v[0]), v[1], KeepAlive::of(v[2] == FLAG)))
 }
 
@@ -111,38 +94,22 @@ fn alive(answer: Alive) -> Reply {
 }
 
 // Counted places, the stored of the fabric, and the ids given so far.
-fn statistics(t: Table, n: Numbers) -> Reply {
-    if !n.all {
-        return refused(Refusal::BadLine);
-    }
-    let v = n.at;
-    match table::load_stats(t, low8(v[0])) {
+fn statistics(t: Table, v: [u64; PLACES]) -> Reply {
+    match table::load_stats(t, narrow(v[0])) {
         Loaded::Is(x) => three(x.places as u64, x.fabric as u64, x.established as u64, 3),
         Loaded::Refused(why) => refused(why),
     }
 }
 
-fn has(t: Table, n: Numbers) -> Reply {
-    if !n.all {
-        return refused(Refusal::BadLine);
-    }
-    let v = n.at;
-    told(table::has_subscription_for(t, low8(v[0]), v[1]))
+fn has(t: Table, v: [u64; PLACES]) -> Reply {
+    told(table::has_subscription_for(t, narrow(v[0]), v[1]))
 }
 
-fn changed(log: ChangedAttrs, n: Numbers) -> Reply {
-    if !n.all {
-        return refused(Refusal::BadLine);
-    }
-    let v = n.at;
-    told(log.contains_since(low16(v[0]), low32(v[1]), low32(v[2]), v[3]))
+fn changed(log: ChangedAttrs, v: [u64; PLACES]) -> Reply {
+    told(log.contains_since(narrow(v[0]), narrow(v[1]), narrow(v[2]), v[3]))
 }
 
-fn any_since(log: ChangedAttrs, n: Numbers) -> Reply {
-    if !n.all {
-        return refused(Refusal::BadLine);
-    }
-    let v = n.at;
+fn any_since(log: ChangedAttrs, v: [u64; PLACES]) -> Reply {
     told(log.any_since(v[0]))
 }
 

@@ -26,7 +26,7 @@ pub(crate) struct Answered {
 pub(crate) fn bad(table: Table) -> Answered {
     Answered {
         reply: refused(Refusal::BadLine),
-        table: table,
+        table,
     }
 }
 
@@ -61,17 +61,21 @@ pub(crate) fn three(a: u64, b: u64, c: u64, count: usize) -> Reply {
 
 pub(crate) fn acted(values: [u64; VALUES], count: usize) -> Reply {
     Reply {
-        values: values,
-        count: count,
+        values,
+        count,
         code: 0,
     }
 }
 
 // Puts line number, code and values into `out` at `at`, a space behind them, and answers the place after it.
-pub(crate) fn put_reply(out: &mut [u8], at: usize, number: u64, reply: Reply) -> usize {
-    let values = reply.values;
-    let count = reply.count;
+pub(crate) fn put_reply(out: &mut [u8], at: usize, number: u64, reply: &Reply) -> usize {
+    let told = &reply.values[..reply.count.min(VALUES)];
     let a = put_field(out, at, number, b',');
-    let b = put_field(out, a, reply.code as u64, behind(0, count, b',', b' '));
-    put_numbers(out, b, &values, count, b',', b' ')
+    let b = put_field(
+        out,
+        a,
+        u64::from(reply.code),
+        behind(0, told.len(), b',', b' '),
+    );
+    put_numbers(out, b, told, b',', b' ')
 }

@@ -33,13 +33,13 @@ pub struct Ran {
 const CAPACITY: u8 = 80;
 
 // The begin of an input.
+#[tactic(auto, unfolding(crate::specs::Runs::start_of))]
 pub fn start() -> Session
     ensures { result ≡ start_of }
 {
     let made = table::new(CAPACITY);
-    let table = made.table;
     Session {
-        table: table,
+        table: made.table,
         reading: cutting::start(MOST_LINES),
     }
 }
@@ -52,23 +52,20 @@ pub fn run(session: Session, held: &mut [u8], s: &[u8], out: &mut [u8]) -> Ran
     let mut reading = session.reading;
     let mut used: usize = 0;
     let mut wrote: usize = 0;
+    // A `while`, since each turn takes as many bytes as its scan does.
     while used < s.len() {
         if !printing::has_room(out.len(), wrote, ANSWER_ROOM) {
             return stopped(table, reading, used, wrote);
         }
         let k = cutting::scan(reading, held, &s[used..]);
-        let next = k.reading;
-        let found = k.found;
-        reading = next;
+        reading = k.reading;
         used += k.used;
-        if !cutting::ends(found) {
+        if !cutting::ends(k.found) {
             return stopped(table, reading, used, wrote);
         }
-        let a = answer(table, line_in(found, held));
-        let after = a.table;
-        let reply = a.reply;
-        table = after;
-        wrote = printing::put_answer(out, wrote, reading.number, reply.code, reply.value);
+        let a = answer(table, line_in(k.found, held));
+        table = a.table;
+        wrote = printing::put_answer(out, wrote, reading.number, a.reply.code, a.reply.value);
     }
     stopped(table, reading, used, wrote)
 }
@@ -77,29 +74,21 @@ pub fn run(session: Session, held: &mut [u8], s: &[u8], out: &mut [u8]) -> Ran
 pub fn finish(session: Session, held: &[u8], out: &mut [u8]) -> usize
     ensures { (result, out.new) ≡ finish_of session held.now out.old }
 {
-    let reading = session.reading;
-    let table = session.table;
-    let t = cutting::close(reading);
-    let found = t.found;
-    let last = t.reading;
-    if !cutting::ends(found) {
+    let t = cutting::close(session.reading);
+    if !cutting::ends(t.found) {
         return 0;
     }
-    let a = answer(table, line_in(found, held));
-    let reply = a.reply;
-    printing::put_answer(out, 0, last.number, reply.code, reply.value)
+    let a = answer(session.table, line_in(t.found, held));
+    printing::put_answer(out, 0, t.reading.number, a.reply.code, a.reply.value)
 }
 
 fn stopped(table: Table, reading: Reading, used: usize, wrote: usize) -> Ran
     ensures { result ≡ ran_to table reading used wrote }
 {
     Ran {
-        session: Session {
-            table: table,
-            reading: reading,
-        },
-        used: used,
-        wrote: wrote,
+        session: Session { table, reading },
+        used,
+        wrote,
     }
 }
 
@@ -108,8 +97,7 @@ fn line_in(found: Found, held: &[u8]) -> Line
     ensures { result ≡ line_found held.now found }
 {
     match found {
-        Found::Nothing => Line::Bad,
-        Found::Bad => Line::Bad,
         Found::Whole(n) => lines::read_held(held, n),
+        Found::Nothing | Found::Bad => Line::Bad,
     }
 }

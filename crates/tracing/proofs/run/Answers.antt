@@ -2,12 +2,11 @@
 -- Scanning.
 -- Assumes nothing.
 use mathlib.Core.Bool.{true}
-use mathlib.Core.Path.{◌≡◌, refl, sym, ap, ◌∙◌}
+use mathlib.Core.Path.{◌≡◌, sym, ap, ◌∙◌}
 use Prim.Native.Nat.{◌+◌, ◌≤◌}
 use native.Mathlib.Omega.{arith}
 use lib.Dec.{leb}
 use lib.ListN.{length, drop_of_length-le}
-use borrow.Author.Rules.{rules}
 use Rattle.printing.specs.Answers.{answer_room}
 use Rattle.tracing.specs.Runs.{run_from}
 use Rattle.tracing.proofs.Scanning.{stopped_at, run_full, run_done, turn_within, turn_moves, turn_none, turn_answered}
@@ -23,15 +22,6 @@ within : (c : After-scan-k) →
     c.loop-used.used + c.scan-k.result.used ≤ length c.args.s.now
 within c = turn_within _ _ _ c.args.s.now _ _ c.scan-k.ensures c.loop-used.invariant.1.0
 
-pub loop-used-init : goal.loop-used-init
-loop-used-init c = (refl, (search rules, refl, refl))
-
-pub shape_of-held-then-not-has_room : goal.shape_of-held-then-not-has_room
-shape_of-held-then-not-has_room c = c.loop-used.invariant.1.1
-
-pub shape_of-out-then-not-has_room : goal.shape_of-out-then-not-has_room
-shape_of-out-then-not-has_room c = c.loop-used.invariant.1.2
-
 pub returns-then-not-has_room : goal.returns-then-not-has_room
 returns-then-not-has_room c =
     let k = c.loop-used in
@@ -39,14 +29,6 @@ returns-then-not-has_room c =
 
 pub overflow_add-used : goal.overflow_add-used
 overflow_add-used c = omega (arith, within (goal.at.overflow_add-used c).After-scan-k)
-
-pub shape_of-held-then-not-ends : goal.shape_of-held-then-not-ends
-shape_of-held-then-not-ends c =
-    c.scan-k.auto.held ∙ c.loop-used.invariant.1.1
-
-pub shape_of-out-then-not-ends : goal.shape_of-out-then-not-ends
-shape_of-out-then-not-ends c =
-    c.loop-used.invariant.1.2
 
 pub returns-then-not-ends : goal.returns-then-not-ends
 returns-then-not-ends c =
@@ -68,12 +50,6 @@ loop-used-preserved c =
           c.put_answer-wrote.ensures,
       (within (goal.at.loop-used-preserved c).After-scan-k, c.scan-k.auto.held ∙ k.invariant.1.1, c.put_answer-wrote.auto.out ∙ k.invariant.1.2),
     )
-
-pub shape_of-held : goal.shape_of-held
-shape_of-held c = c.loop-used.invariant.1.1
-
-pub shape_of-out : goal.shape_of-out
-shape_of-out c = c.loop-used.invariant.1.2
 
 pub returns : goal.returns
 returns c =
