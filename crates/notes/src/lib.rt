@@ -2,14 +2,16 @@
 // of it, so that every call is safe. Which identity a note takes, and which log is refused, is crate changes' matter.
 #![tactic(auto)]
 
-ghost use Rattle.std.specs.Prelude.{◌≡◌, [], ◌∷◌, ◌++◌, ◌≤◌, ◌<◌, max, set, get_or};
-ghost use Rattle.lists.specs.Search.{count, first};
+ghost use Rattle.std.specs.Prelude.{◌≡◌, [], ◌∷◌, ◌++◌, ◌≤◌, ◌<◌, set, get_or, position, max, fold, map, filter};
+ghost use Rattle.std.specs.List.{list_any};
+ghost use Rattle.lists.specs.Search.{count};
 ghost use Rattle.lists.specs.Removal.{sweep};
 ghost use Rattle.entries.specs.Paths.{blank, all_wild, with_identity, under, holds};
 ghost use Rattle.notes.specs.Notes.{newest, placed, group_of, larger, largest, folded, crowded, entered};
 ghost use Rattle.notes.specs.Places.{listed, held_as, any_held, newest_held, held_without, held_after, Holds};
 
-use entries::{ChangedAttr, Coarser, Level, Rule};
+use entries::{ChangedAttr, Level, Rule};
+use sweeping::sweep;
 
 // The entries are the first `len` of sixteen places.
 #[repr(C)]
@@ -24,15 +26,14 @@ impl Held {
     pub fn any(self, rule: Rule) -> bool
         ensures { result ≡ any_held rule self }
     {
-        let held = bounded(self);
-        find(held, rule) < held.len
+        any_of(live(&self), rule)
     }
 
     // The greatest identity among the entries that meet the rule, or 0.
     pub fn newest(self, rule: Rule) -> u64
         ensures { result ≡ newest_held rule self }
     {
-        newest_of(bounded(self), rule)
+        newest_of(live(&self), rule)
     }
 
     // The entries that do not meet the rule, with blank places beyond them.
@@ -50,16 +51,21 @@ impl Held {
     }
 }
 
+// The entries that are held.
+fn live(held: &Held) -> &[ChangedAttr]
+    ensures { result.now ≡ listed held.now }
+{
+    &held.entries[..held.len.min(16)]
+}
+
 // The same entries with a length within the array.
 fn bounded(held: Held) -> Held
     ensures { Holds result (listed held) }
 {
-    if held.len <= 16 {
-        return held;
+    Held {
+        len: held.len.min(16),
+        ..held
     }
-    let mut all = held;
-    all.len = 16;
-    all
 }
 
 // The note among the entries: the first one that covers it takes its identity; else those that it covers make way for it.
@@ -67,8 +73,7 @@ fn record_raw(held: Held, new: ChangedAttr) -> Held
     requires { held.len ≤ 16 }
     ensures { Holds result (entered new (listed held)) }
 {
-    let at = find(held, Rule::Over(new));
-    if at < held.len {
+    if let Some(at) = find(live(&held), Rule::Over(new)) {
         return refresh(held, at, new.identity);
     }
     let rest = swept(held, Rule::Under(new));
@@ -84,15 +89,15 @@ fn promote_and_insert(held: Held, new: ChangedAttr) -> Held
     requires { held.len ≤ 16 }
     ensures { Holds result (crowded new (listed held)) }
 {
-    let fine = largest_group(held, Level::Cluster);
+    let fine = largest_group(live(&held), Level::Cluster);
     if 1 < fine.size {
         return insert(promote(held, fine.by), new);
     }
-    let coarse = largest_group(held, Level::Endpoint);
+    let coarse = largest_group(live(&held), Level::Endpoint);
     if 1 < coarse.size {
         return insert(promote(held, coarse.by), new);
     }
-    alone(held, new.identity)
+    alone(new.identity)
 }
 
 // A coarser entry, and how many entries it covers.
@@ -102,62 +107,37 @@ pub struct Group {
     pub size: usize,
 }
 
-// The place of the first entry that meets the rule, or the number of entries where none does.
-fn find(held: Held, rule: Rule) -> usize
-    requires { held.len ≤ 16 }
-    ensures { result ≡ first (holds rule) (listed held) }
+// Whether some entry meets the rule.
+fn any_of(entries: &[ChangedAttr], rule: Rule) -> bool
+    ensures { result ≡ list_any (holds rule) entries.now }
 {
-    let n = held.len;
-    let mut i: usize = 0;
-    while i < n {
-        let x = held.entries[i];
-        if rule.meets(x) {
-            return i;
-        }
-        i += 1;
-    }
-    i
+    entries.iter().any(|x| rule.meets(*x))
+}
+
+// The place of the first entry that meets the rule.
+fn find(entries: &[ChangedAttr], rule: Rule) -> Option<usize>
+    ensures { result ≡ position (holds rule) entries.now }
+{
+    entries.iter().position(|x| rule.meets(*x))
 }
 
 // How many entries meet the rule.
-fn tally(held: Held, rule: Rule) -> usize
-    requires { held.len ≤ 16 }
-    ensures { result ≡ count (holds rule) (listed held) }
+#[tactic(auto, using(lists::proofs::Library::count_filter))]
+fn tally(entries: &[ChangedAttr], rule: Rule) -> usize
+    ensures { result ≡ count (holds rule) entries.now }
 {
-    let n = held.len;
-    let mut found: usize = 0;
-    let mut i: usize = 0;
-    while i < n {
-        let x = held.entries[i];
-        i += 1;
-        if rule.meets(x) {
-            found += 1;
-        }
-    }
-    found
+    entries.iter().filter(|x| rule.meets(**x)).count()
 }
 
-fn newest_of(held: Held, rule: Rule) -> u64
-    requires { held.len ≤ 16 }
-    ensures { result ≡ newest (holds rule) (listed held) }
+// The greatest identity of the entries that meet the rule, or 0.
+fn newest_of(entries: &[ChangedAttr], rule: Rule) -> u64
+    ensures { result ≡ fold max 0 (map (λ (x : ChangedAttr). x.identity) (filter (holds rule) entries.now)) }
 {
-    let n = held.len;
-    let mut most: u64 = 0;
-    let mut i: usize = 0;
-    while i < n {
-        let x = held.entries[i];
-        i += 1;
-        if rule.meets(x) {
-            most = greater(most, x.identity);
-        }
-    }
-    most
-}
-
-fn greater(a: u64, b: u64) -> u64
-    ensures { result ≡ max a b }
-{
-    if a <= b { b } else { a }
+    entries
+        .iter()
+        .filter(|x| rule.meets(**x))
+        .map(|x| x.identity)
+        .fold(0, |most, identity| most.max(identity))
 }
 
 // Without the entries that meet the rule: the last entry fills each hole and is looked at next.
@@ -165,49 +145,28 @@ fn swept(held: Held, rule: Rule) -> Held
     requires { held.len ≤ 16 }
     ensures { Holds result (sweep (holds rule) (listed held)) }
 {
-    let mut rest = held;
-    let mut n = rest.len;
-    let mut i: usize = 0;
-    while i < n {
-        let x = rest.entries[i];
-        if rule.meets(x) {
-            n -= 1;
-            let last = rest.entries[n];
-            rest.entries[i] = last;
-        } else {
-            i += 1;
-        }
-    }
-    rest.len = n;
-    rest
+    let mut entries = held.entries;
+    let len = sweep(&mut entries[..held.len], |x| rule.meets(*x));
+    Held { entries, len }
 }
 
 // The entry takes the identity.
-fn refresh(held: Held, at: usize, identity: u64) -> Held
+fn refresh(mut held: Held, at: usize, identity: u64) -> Held
     requires { (held.len ≤ 16) × (at < held.len) }
     ensures { Holds result (set (listed held) at (with_identity identity (get_or (listed held) at blank))) }
 {
-    let x = held.entries[at];
-    let mut after = held;
-    after.entries[at] = ChangedAttr {
-        identity: identity,
-        cluster: x.cluster,
-        attr: x.attr,
-        endpoint: x.endpoint,
-    };
-    after
+    held.entries[at].identity = identity;
+    held
 }
 
 // The entry goes at the end.
-fn push(held: Held, new: ChangedAttr) -> Held
+fn push(mut held: Held, new: ChangedAttr) -> Held
     requires { held.len < 16 }
     ensures { Holds result (listed held ++ (new ∷ [])) }
 {
-    let n = held.len;
-    let mut after = held;
-    after.entries[n] = new;
-    after.len = n + 1;
-    after
+    held.entries[held.len] = new;
+    held.len += 1;
+    held
 }
 
 // The note where there is room and no entry that it covers.
@@ -215,11 +174,10 @@ fn insert(held: Held, new: ChangedAttr) -> Held
     requires { held.len < 16 }
     ensures { Holds result (placed new (listed held)) }
 {
-    let at = find(held, Rule::Over(new));
-    if at < held.len {
-        return refresh(held, at, new.identity);
+    match find(live(&held), Rule::Over(new)) {
+        Some(at) => refresh(held, at, new.identity),
+        None => push(held, new),
     }
-    push(held, new)
 }
 
 // The entries that the coarser one covers become that one, with their greatest identity.
@@ -227,42 +185,34 @@ fn promote(held: Held, by: ChangedAttr) -> Held
     requires { (held.len ≤ 16) × (1 < count (under by) (listed held)) }
     ensures { Holds result (folded by (listed held)) }
 {
-    let identity = newest_of(held, Rule::Under(by));
+    let identity = newest_of(live(&held), Rule::Under(by));
     let rest = swept(held, Rule::Under(by));
-    push(
-        rest,
-        ChangedAttr {
-            identity: identity,
-            cluster: by.cluster,
-            attr: by.attr,
-            endpoint: by.endpoint,
-        },
-    )
+    push(rest, ChangedAttr { identity, ..by })
 }
 
 // One entry that covers everything.
-fn alone(held: Held, identity: u64) -> Held
+fn alone(identity: u64) -> Held
     ensures { Holds result (all_wild identity ∷ []) }
 {
-    let mut wild = ChangedAttr::WILD;
-    wild.identity = identity;
-    let mut after = held;
-    after.entries[0] = wild;
-    after.len = 1;
-    after
+    let mut entries = [ChangedAttr::BLANK; 16];
+    entries[0] = ChangedAttr {
+        identity,
+        ..ChangedAttr::WILD
+    };
+    Held { entries, len: 1 }
 }
 
 // The group of an entry at the level; one of no size where it has none.
-fn group_of(held: Held, level: Level, x: ChangedAttr) -> Group
-    requires { held.len ≤ 16 }
-    ensures { result ≡ group_of level (listed held) x }
+#[tactic(auto, unfolding(crate::specs::Notes::group_of))]
+fn group_of(entries: &[ChangedAttr], level: Level, x: ChangedAttr) -> Group
+    ensures { result ≡ group_of level entries.now x }
 {
     match x.coarsen(level) {
-        Coarser::To(by) => Group {
-            by: by,
-            size: tally(held, Rule::Under(by)),
+        Some(by) => Group {
+            by,
+            size: tally(entries, Rule::Under(by)),
         },
-        Coarser::Nothing => Group {
+        None => Group {
             by: ChangedAttr::BLANK,
             size: 0,
         },
@@ -270,6 +220,7 @@ fn group_of(held: Held, level: Level, x: ChangedAttr) -> Group
 }
 
 // The larger group, the earlier one on a tie.
+#[tactic(auto, unfolding(crate::specs::Notes::larger))]
 fn larger_group(a: Group, b: Group) -> Group
     ensures { result ≡ larger a b }
 {
@@ -277,35 +228,25 @@ fn larger_group(a: Group, b: Group) -> Group
 }
 
 // The largest group at the level; one of size 1 where none covers two entries.
-fn largest_group(held: Held, level: Level) -> Group
-    requires { held.len ≤ 16 }
-    ensures { result ≡ largest level (listed held) }
+#[tactic(auto, unfolding(crate::specs::Notes::largest, crate::specs::Notes::largest_from))]
+fn largest_group(entries: &[ChangedAttr], level: Level) -> Group
+    ensures { result ≡ largest level entries.now }
 {
-    let n = held.len;
-    let mut best = Group {
+    let none = Group {
         by: ChangedAttr::BLANK,
         size: 1,
     };
-    let mut i: usize = 0;
-    while i < n {
-        let x = held.entries[i];
-        i += 1;
-        let group = group_of(held, level, x);
-        best = larger_group(best, group);
-    }
-    best
+    entries.iter().fold(none, |best, x| {
+        larger_group(best, group_of(entries, level, *x))
+    })
 }
 
 // Blank places beyond the entries, so that equal entries are held in equal arrays.
-fn tidied(held: Held) -> Held
+fn tidied(mut held: Held) -> Held
     requires { held.len ≤ 16 }
     ensures { result ≡ held_as (listed held) }
 {
-    let mut tidy = held;
-    let mut i = tidy.len;
-    while i < 16 {
-        tidy.entries[i] = ChangedAttr::BLANK;
-        i += 1;
-    }
-    tidy
+    let len = held.len;
+    held.entries[len..].fill(ChangedAttr::BLANK);
+    held
 }

@@ -1,27 +1,25 @@
--- `insert` meets its contract: the two returns are the two cases of `placed`, since `find` tells whether some entry covers the note.
+-- `insert` meets its contract: the two arms are the two cases of `placed`.
 -- Assumes nothing.
-use mathlib.Core.Path.{sym, ◌∙◌}
-use native.Mathlib.Omega.{arith}
-use borrow.Author.Tests.{lt-ltb, le-ltb}
-use Rattle.notes.specs.Places.{listed}
+use mathlib.Core.Path.{◌≡◌, sym, ◌∙◌}
+use Rattle.std.specs.Prelude.{Some, None}
+use Rattle.std.specs.List.{position}
+use Rattle.lists.proofs.Library.{found_at, found_nowhere}
 use Rattle.entries.specs.Paths.{over}
+use Rattle.notes.specs.Places.{listed}
 use Rattle.notes.proofs.Cases.{placed_found, placed_new}
-use Rattle.notes.proofs.Steps.{found, holds_as, entries_length, refreshed_at}
+use Rattle.notes.proofs.Steps.{holds_as, refreshed_at}
 use Rattle.notes.proofs.insert.Goals as goal
 
-pub returns-then-at-held : goal.returns-then-at-held
-returns-then-at-held c =
-    let held = c.args.held in
+pub returns-in-Some : goal.returns-in-Some
+returns-in-Some c =
     let new = c.args.new in
-    let is = entries_length held (c.well_formed.0.1.1.0.1.0.1) (omega arith) in
-    let there = sym (found (over new) (listed held) is c.find-at.ensures) ∙ lt-ltb _ _ c.if-at-held.true in
-    let at = refreshed_at new (listed held) is c.find-at.ensures c.if-at-held.true in
-    holds_as c.refresh.ensures (at ∙ placed_found new (listed held) there)
+    let l = listed c.args.held in
+    let at : position (over new) l ≡ Some c.in-Some.at = rw c.live.ensures at (sym c.find.ensures ∙ c.in-Some.is) in
+    holds_as c.refresh.ensures (refreshed_at new l at ∙ placed_found new l (found_at (over new) l at).0)
 
-pub returns : goal.returns
-returns c =
-    let held = c.args.held in
+pub returns-in-None : goal.returns-in-None
+returns-in-None c =
     let new = c.args.new in
-    let is = entries_length held (c.well_formed.0.1.1.0.1.0.1) (omega arith) in
-    let none = sym (found (over new) (listed held) is c.find-at.ensures) ∙ le-ltb _ _ c.if-at-held.false in
-    holds_as c.push.ensures (placed_new new (listed held) none)
+    let l = listed c.args.held in
+    let none : position (over new) l ≡ None = rw c.live.ensures at (sym c.find.ensures ∙ c.in-None.is) in
+    holds_as c.push.ensures (placed_new new l (found_nowhere (over new) l none))

@@ -4,7 +4,7 @@ use native.Mathlib.Omega.{arith}
 use Rattle.notes.specs.Places.{listed}
 use Rattle.notes.specs.Notes.{folded}
 use Rattle.notes.proofs.Groups.{swept_room}
-use Rattle.notes.proofs.Steps.{holds_as, entries_length}
+use Rattle.notes.proofs.Steps.{holds_as, entries_length, newest_is}
 use Rattle.notes.proofs.promote.Goals as goal
 
 pub push-requires : goal.push-requires
@@ -17,4 +17,4 @@ push-requires c =
 pub returns : goal.returns
 unfolding folded
 returns c =
-    holds_as c.push.ensures (rw (c.swept-rest.ensures.lives, c.newest_of-identity.ensures))
+    holds_as c.push.ensures (rw (c.swept-rest.ensures.lives, newest_is, ← c.live.ensures, c.newest_of-identity.ensures))

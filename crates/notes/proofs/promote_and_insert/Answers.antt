@@ -25,7 +25,7 @@ pub promote-requires : goal.promote-requires
 promote-requires c = (
   search rules,
   largest_covers (listed c.args.held) Cluster
-      c.largest_group-fine.ensures c.if-fine-gt1.true,
+      (rw c.live.ensures at c.largest_group-fine.ensures) c.if-fine-gt1.true,
 )
 
 pub insert-requires : goal.insert-requires
@@ -36,13 +36,13 @@ insert-requires c =
       c.promote.ensures.counts,
       folded_room l c.largest_group-fine.result.by
           (fits (goal.at.insert-requires c).Start)
-          (largest_covers l Cluster c.largest_group-fine.ensures c.if-fine-gt1.true),
+          (largest_covers l Cluster (rw c.live.ensures at c.largest_group-fine.ensures) c.if-fine-gt1.true),
     )
 
 pub returns-then-fine-gt1 : goal.returns-then-fine-gt1
 returns-then-fine-gt1 c =
     let a = c.args in
-    let fine = c.largest_group-fine.ensures in
+    let fine = rw c.live.ensures at c.largest_group-fine.ensures in
     holds_as c.insert.ensures
     (ap (placed a.new) c.promote.ensures.lives
     ∙ crowded_fine a.new (listed a.held) fine c.if-fine-gt1.true)
@@ -51,7 +51,7 @@ pub promote-requires-then-coarse-gt1 : goal.promote-requires-then-coarse-gt1
 promote-requires-then-coarse-gt1 c = (
   search rules,
   largest_covers (listed c.args.held) Endpoint
-      c.largest_group-coarse.ensures c.if-coarse-gt1.true,
+      (rw c.live-2.ensures at c.largest_group-coarse.ensures) c.if-coarse-gt1.true,
 )
 
 pub insert-requires-then-coarse-gt1 : goal.insert-requires-then-coarse-gt1
@@ -62,14 +62,14 @@ insert-requires-then-coarse-gt1 c =
       c.promote-then-coarse-gt1.ensures.counts,
       folded_room l c.largest_group-coarse.result.by
           (fits (goal.at.insert-requires-then-coarse-gt1 c).Start)
-          (largest_covers l Endpoint c.largest_group-coarse.ensures c.if-coarse-gt1.true),
+          (largest_covers l Endpoint (rw c.live-2.ensures at c.largest_group-coarse.ensures) c.if-coarse-gt1.true),
     )
 
 pub returns-then-coarse-gt1 : goal.returns-then-coarse-gt1
 returns-then-coarse-gt1 c =
     let a = c.args in
-    let fine = c.largest_group-fine.ensures in
-    let coarse = c.largest_group-coarse.ensures in
+    let fine = rw c.live.ensures at c.largest_group-fine.ensures in
+    let coarse = rw c.live-2.ensures at c.largest_group-coarse.ensures in
     holds_as c.insert-then-coarse-gt1.ensures
     (ap (placed a.new) c.promote-then-coarse-gt1.ensures.lives
     ∙ crowded_coarse a.new (listed a.held) fine coarse c.if-fine-gt1.false
@@ -78,7 +78,7 @@ returns-then-coarse-gt1 c =
 pub returns : goal.returns
 returns c =
     let a = c.args in
-    let fine = c.largest_group-fine.ensures in
-    let coarse = c.largest_group-coarse.ensures in
+    let fine = rw c.live.ensures at c.largest_group-fine.ensures in
+    let coarse = rw c.live-2.ensures at c.largest_group-coarse.ensures in
     holds_as c.alone.ensures
     (crowded_wild a.new (listed a.held) fine coarse c.if-fine-gt1.false c.if-coarse-gt1.false)

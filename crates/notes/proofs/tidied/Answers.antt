@@ -1,30 +1,20 @@
--- `tidied` meets its contract. The invariant: up to i the array holds the entries and then blanks.
+-- `tidied` meets its contract: the places beyond the entries are filled.
 -- Assumes nothing.
+use mathlib.Core.Path.{sym, ap, ◌∙◌}
 use native.Mathlib.Omega.{arith}
-use borrow.Author.Rules.{rules}
-use Rattle.notes.specs.Places.{listed}
-use Rattle.notes.proofs.Steps.{entries_length, blanked, blank_start, blank_end}
+use Prim.Native.Nat.{◌-◌}
+use mathlib.Core.List.{◌++◌}
+use lib.ListN.{length, replicate}
+use Rattle.entries.specs.Paths.{blank}
+use Rattle.notes.specs.Places.{held_as, listed}
+use Rattle.notes.proofs.Steps.{entries_length, blanked}
 use Rattle.notes.proofs.tidied.Goals as goal
 
-pub loop-i-init : goal.loop-i-init
-loop-i-init c =
-    let a = c.args in
-    let long = c.well_formed.0.1.1.0.1.0.1 in
-    (blank_start (listed a.held) a.held.len, search rules)
-
-pub loop-i-preserved : goal.loop-i-preserved
-loop-i-preserved c =
-    let at = c.loop-i in
-    let a = c.args in (
-      blanked at.tidy.entries (listed a.held) a.held.len at.i (omega arith) (omega arith) (omega arith) at.invariant.0,
-      search rules,
-    )
-
 pub returns : goal.returns
+unfolding held_as
 returns c =
-    let at = c.loop-i in
-    let a = c.args in
+    let held = c.args.held in
     let long = c.well_formed.0.1.1.0.1.0.1 in
-    let is = entries_length a.held long (omega arith) in
-    blank_end at.tidy (listed a.held) at.i (omega arith) (omega arith) (omega arith) (omega arith)
-    (rw at.invariant.1.4 at.invariant.0)
+    ap (λ l. record { entries = l; len = held.len }) (blanked held.entries _ held.len long (omega arith) (c.fill.ensures.after (λ y k. k)))
+    ∙ ap (λ n. record { entries = listed held ++ replicate (16 - length (listed held)) blank; len = n })
+    (sym (entries_length held long (omega arith)))
