@@ -1,16 +1,15 @@
--- One turn of each loop over the array, and what a step of a note hands on. The definitions' cases are in `Cases`.
+-- What a step of a note hands on, and what the chains over the entries come to. The definitions' cases are in `Cases`.
 -- Assumes nothing.
 use mathlib.Core.Path.{◌≡◌, sym, ap, ◌∙◌}
 use mathlib.Core.Bool.{Bool}
 use mathlib.Core.List.{map, List, [], ◌∷◌, ◌++◌, append-nil}
-use Prim.Native.Nat.{ℕ, ◌+◌, ◌-◌, ◌≤◌, ◌<◌, max}
+use Prim.Native.Nat.{ℕ, ◌-◌, ◌≤◌, ◌<◌, max}
 use native.Mathlib.Omega.{arith}
-use native.Mathlib.Numerals.{add-one}
 use borrow.Rule.Slice.PartMut.{mid_of, mid_len, post_of, Post-is, put_mid}
 use native.Mathlib.Nat.{le_refl}
 use Rattle.std.proofs.lemmas.List.{drop_all}
 use lib.ListN.{length, take, get_or, set, replicate}
-use lib.Seq.{get_or-take, length-take-le, take_all, take-set-lt, take-suc-set}
+use lib.Seq.{get_or-take, length-take-le, take-set-lt}
 use Rattle.entries.specs.declared.ChangedAttr.{ChangedAttr}
 use Rattle.notes.specs.declared.Held.{Held}
 use Rattle.std.specs.Prelude.{Some}
@@ -25,10 +24,6 @@ use Rattle.lists.proofs.Bools.{split}
 -- the number of entries is the length of their list
 pub entries_length : (h : Held) → length h.entries ≡ 16 → h.len ≤ 16 → length (listed h) ≡ h.len
 entries_length h long fits = length-take-le h.len h.entries (omega arith)
-
--- a length beyond the array counts all of it
-pub beyond : (h : Held) → length h.entries ≡ 16 → 16 ≤ h.len → take 16 h.entries ≡ listed h
-beyond h long over = take_all 16 h.entries (omega arith) ∙ sym (take_all h.len h.entries (omega arith))
 
 -- an array of sixteen places whose entries are l
 pub holding : (h : Held) {l : List ChangedAttr} → length h.entries ≡ 16 → h.len ≤ 16 → listed h ≡ l → Holds h l
@@ -59,15 +54,10 @@ module _ (p : ChangedAttr → Bool) where
   pub newest_is : (l : List ChangedAttr) → newest p l ≡ fold max 0 (map (λ x. x.identity) (filter p l))
   newest_is l = omega (arith, newest_from 0 l)
 
-module _ (l : List ChangedAttr) (n : ℕ) (long : length l ≡ 16) where
-  -- an entry stored behind the last
-  pub pushed : (e : ChangedAttr) → n < 16 → take (n + 1) (set l n e) ≡ take n l ++ (e ∷ [])
-  pushed e h = let within : n < length l = omega arith in rw (add-one, take-suc-set l n e within)
-
-  -- an entry stored among them
-  pub renewed : (i k : ℕ) → i < n
-      → take n (set l i (with_identity k (get_or l i blank))) ≡ set (take n l) i (with_identity k (get_or (take n l) i blank))
-  renewed i k h = rw (get_or-take n l i blank h, take-set-lt n l i _ h)
+-- an entry stored among the first n
+pub renewed : (l : List ChangedAttr) (n : ℕ) → length l ≡ 16 → (i k : ℕ) → i < n
+    → take n (set l i (with_identity k (get_or l i blank))) ≡ set (take n l) i (with_identity k (get_or (take n l) i blank))
+renewed l n long i k h = rw (get_or-take n l i blank h, take-set-lt n l i _ h)
 
 -- with every place beyond the first n blank, the array is settled by those
 pub blanked : (l ys : List ChangedAttr) (n : ℕ) → length l ≡ 16 → n ≤ 16 → ys ≡ replicate (length (mid_of n (length l - n) l)) blank
