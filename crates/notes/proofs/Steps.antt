@@ -8,30 +8,16 @@ use native.Mathlib.Omega.{arith}
 use borrow.Rule.Slice.PartMut.{mid_of, mid_len, post_of, Post-is, put_mid}
 use native.Mathlib.Nat.{le_refl}
 use Rattle.std.proofs.lemmas.List.{drop_all}
-use lib.ListN.{length, take, get_or, set, replicate}
+use lib.ListN.{length-take, length, take, get_or, set, replicate}
 use lib.Seq.{get_or-take, length-take-le, take-set-lt}
 use Rattle.entries.specs.declared.ChangedAttr.{ChangedAttr}
-use Rattle.notes.specs.declared.Held.{Held}
 use Rattle.std.specs.Prelude.{Some}
 use Rattle.std.specs.List.{fold, filter, position}
 use Rattle.entries.specs.Paths.{blank, with_identity, over}
 use Rattle.notes.specs.Notes.{newest, refreshed}
-use Rattle.notes.specs.Places.{listed, Holds}
 use Rattle.lists.proofs.Searches.{changed_at}
 use Rattle.lists.proofs.Library.{found_at}
 use Rattle.lists.proofs.Bools.{split}
-
--- the number of entries is the length of their list
-pub entries_length : (h : Held) → length h.entries ≡ 16 → h.len ≤ 16 → length (listed h) ≡ h.len
-entries_length h long fits = length-take-le h.len h.entries (omega arith)
-
--- an array of sixteen places whose entries are l
-pub holding : (h : Held) {l : List ChangedAttr} → length h.entries ≡ 16 → h.len ≤ 16 → listed h ≡ l → Holds h l
-holding h long fits e = record { lives = e; counts = sym (entries_length h long fits) ∙ ap length e; fits = fits }
-
--- the same entries under another name
-pub holds_as : {g : Held} {l m : List ChangedAttr} → Holds g l → l ≡ m → Holds g m
-holds_as h e = record { lives = h.lives ∙ e; counts = h.counts ∙ ap length e; fits = h.fits }
 
 -- the first entry that covers the note, by its place
 pub refreshed_at : (n : ChangedAttr) (l : List ChangedAttr) {i : ℕ} → position (over n) l ≡ Some i
@@ -55,9 +41,11 @@ module _ (p : ChangedAttr → Bool) where
   newest_is l = omega (arith, newest_from 0 l)
 
 -- an entry stored among the first n
-pub renewed : (l : List ChangedAttr) (n : ℕ) → length l ≡ 16 → (i k : ℕ) → i < n
+pub renewed : (l : List ChangedAttr) (n i k : ℕ) → i < length (take n l)
     → take n (set l i (with_identity k (get_or l i blank))) ≡ set (take n l) i (with_identity k (get_or (take n l) i blank))
-renewed l n long i k h = rw (get_or-take n l i blank h, take-set-lt n l i _ h)
+renewed l n i k h =
+    let within : i < n = omega (arith, length-take n l) in
+    rw (get_or-take n l i blank within, take-set-lt n l i _ within)
 
 -- with every place beyond the first n blank, the array is settled by those
 pub blanked : (l ys : List ChangedAttr) (n : ℕ) → length l ≡ 16 → n ≤ 16 → ys ≡ replicate (length (mid_of n (length l - n) l)) blank

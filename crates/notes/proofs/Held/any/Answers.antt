@@ -4,4 +4,4 @@ use Rattle.lists.proofs.Library.{some_any}
 use Rattle.notes.proofs.Held.any.Goals as goal
 
 pub returns : goal.returns
-returns c = rw (some_any, ← c.live.ensures) c.any_of.ensures
+returns c = rw (some_any, ← c.of.ensures, ← c.live.ensures.all) c.any_of.ensures

@@ -4,4 +4,4 @@ use Rattle.notes.proofs.Steps.{newest_is}
 use Rattle.notes.proofs.Held.newest.Goals as goal
 
 pub returns : goal.returns
-returns c = rw (newest_is, ← c.live.ensures) c.newest_of.ensures
+returns c = rw (newest_is, ← c.of.ensures, ← c.live.ensures.all) c.newest_of.ensures
