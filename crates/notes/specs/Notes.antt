@@ -1,6 +1,6 @@
 -- What a note does to the list of entries, as document 01 has it, "Change held". The array that holds them is `Logs`' matter.
 -- Assumes nothing.
-use Rattle.std.specs.Prelude.{Bool, cond, List, [], ◌∷◌, ◌++◌, ℕ, max, ltb, length, Option, Some, None}
+use Rattle.std.specs.Prelude.{Bool, cond, List, [], ◌∷◌, ◌++◌, ℕ, max, ltb, length, fold, Option, Some, None}
 use Rattle.entries.specs.declared.ChangedAttr.{ChangedAttr}
 use Rattle.entries.specs.declared.Level.{Level}
 use Rattle.entries.specs.declared.Level.TheVariants.{Cluster, Endpoint}
@@ -36,8 +36,7 @@ larger a b = cond (ltb a.size b.size) b a
 
 -- the winner among a group and those of the entries to come
 unfoldable pub largest_from : Level → List ChangedAttr → Group → List ChangedAttr → Group
-largest_from level l best [] = best
-largest_from level l best (x ∷ xs) = largest_from level l (larger best (group_of level l x)) xs
+largest_from level l best m = fold (λ b x. larger b (group_of level l x)) best m
 
 -- "The candidate covering most entries wins, at least two": a winner of size 1 is none
 unfoldable pub largest : Level → List ChangedAttr → Group
