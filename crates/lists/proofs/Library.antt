@@ -1,0 +1,77 @@
+-- The words of `Search` in the library's: the contract of a chain of iterators speaks in those, and one of these equations leads over.
+-- Assumes nothing.
+use mathlib.Core.Path.{◌≡◌, refl, ap, ◌∙◌}
+use mathlib.Core.Bool.{Bool, cond, ◌||◌}
+use mathlib.Core.List.{List, [], ◌∷◌}
+use Prim.Native.Nat.{ℕ, ◌+◌, min, max, ◌≤◌}
+use native.Mathlib.Omega.{arith}
+use borrow.Author.Tests.{ltb-false}
+use lib.Dec.{ltb}
+use lib.ListN.{length}
+use Rattle.std.specs.List.{list_any, fold, count_by, find, position, position_or_len}
+use Rattle.std.specs.Prelude.{unwrap_or}
+use Rattle.lists.specs.Search.{some, count, first, first_by, least_by}
+use Rattle.lists.proofs.Bools.{split}
+
+module _ {A : Type 0} (p : A → Bool) where
+  -- `xs.iter().any(p)`
+  pub some_any : (xs : List A) → some p xs ≡ list_any p xs
+  unfolding some
+  some_any [] = refl
+  some_any (x ∷ xs) = ap (λ b. p x || b) (some_any xs)
+
+  count_from : (n : ℕ) (xs : List A) → fold (λ a x. a + cond (p x) 1 0) n xs ≡ n + count p xs
+  unfolding count
+  count_from n [] = omega arith
+  count_from n (x ∷ xs) =
+      split (p x)
+      (λ t. rw t (omega (arith, count_from (n + 1) xs)))
+      (λ t. rw t (omega (arith, count_from (n + 0) xs)))
+
+  -- `xs.iter().filter(p).count()`
+  pub count_filter : (xs : List A) → count p xs ≡ count_by p xs
+  count_filter xs = omega (arith, count_from 0 xs)
+
+  -- the first place in the library's other words
+  pub first_len : (xs : List A) → first p xs ≡ position_or_len p xs
+  unfolding first
+  first_len [] = refl
+  first_len (x ∷ xs) = split (p x) (λ t. rw (t, first)) (λ t. rw (t, first) (omega (arith, first_len xs)))
+
+  first_most : (xs : List A) → first p xs ≤ length xs
+  unfolding first
+  first_most [] = omega arith
+  first_most (x ∷ xs) = split (p x) (λ t. rw (t, first) (omega arith)) (λ t. rw (t, first) (omega (arith, first_most xs)))
+
+  -- `xs.iter().position(p).unwrap_or(xs.len())`
+  pub first_position : (xs : List A) → first p xs ≡ unwrap_or (position p xs) (length xs)
+  first_position xs =
+      split (ltb (position_or_len p xs) (length xs))
+      (λ t. rw t (first_len xs))
+      (λ t. rw t (omega (arith, first_len xs, first_most xs, ltb-false _ _ t)))
+
+  -- `xs.iter().find(p)`, and d where there is none
+  pub first_find : (d : A) (xs : List A) → first_by p d xs ≡ unwrap_or (find p xs) d
+  unfolding first_by
+  first_find d [] = refl
+  first_find d (x ∷ xs) = split (p x) (λ t. rw (t, first_by)) (λ t. rw (t, first_by) (first_find d xs))
+
+module _ {A : Type 0} (f : A → ℕ) where
+  min_cons : (m k : ℕ) (xs : List A) → min k (fold (λ m x. min m (f x)) m xs) ≡ fold (λ m x. min m (f x)) (min m k) xs
+  min_cons m k [] = omega arith
+  min_cons m k (y ∷ ys) =
+      let e : min (min m (f y)) k ≡ min (min m k) (f y) = omega arith in
+      min_cons (min m (f y)) k ys ∙ ap (λ n. fold (λ m x. min m (f x)) n ys) e
+
+  -- `xs.iter().fold(m, |m, x| m.min(f(x)))`
+  pub least_fold : (m : ℕ) (xs : List A) → least_by f m xs ≡ fold (λ m x. min m (f x)) m xs
+  unfolding least_by
+  least_fold m [] = refl
+  least_fold m (x ∷ xs) = ap (min (f x)) (least_fold m xs) ∙ min_cons m (f x) xs
+
+  -- `xs.iter().fold(m, |m, x| m.max(f(x)))`, an element at a time: the greatest so far may be taken last
+  pub greatest_fold : (m k : ℕ) (xs : List A) → fold (λ m x. max m (f x)) (max m k) xs ≡ max k (fold (λ m x. max m (f x)) m xs)
+  greatest_fold m k [] = omega arith
+  greatest_fold m k (y ∷ ys) =
+      let e : max (max m k) (f y) ≡ max (max m (f y)) k = omega arith in
+      ap (λ n. fold (λ m x. max m (f x)) n ys) e ∙ greatest_fold (max m (f y)) k ys
