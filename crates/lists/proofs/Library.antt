@@ -1,17 +1,18 @@
 -- The words of `Search` in the library's: the contract of a chain of iterators speaks in those, and one of these equations leads over.
 -- Assumes nothing.
-use mathlib.Core.Path.{◌≡◌, refl, ap, ◌∙◌}
-use mathlib.Core.Bool.{Bool, cond, ◌||◌}
+use mathlib.Core.Path.{◌≡◌, refl, sym, ap, ◌∙◌}
+use mathlib.Core.Bool.{Bool, true, false, cond, ◌||◌}
 use mathlib.Core.List.{List, [], ◌∷◌}
-use Prim.Native.Nat.{ℕ, ◌+◌, min, max, ◌≤◌}
+use Prim.Native.Nat.{ℕ, ◌+◌, min, max, ◌≤◌, ◌<◌}
 use native.Mathlib.Omega.{arith}
-use borrow.Author.Tests.{ltb-false}
+use borrow.Author.Tests.{ltb-true, ltb-false, lt-ltb}
 use lib.Dec.{ltb}
 use lib.ListN.{length}
 use Rattle.std.specs.List.{list_any, fold, count_by, find, position, position_or_len}
-use Rattle.std.specs.Prelude.{unwrap_or}
+use Rattle.std.specs.Prelude.{unwrap_or, Some, None}
 use Rattle.lists.specs.Search.{some, count, first, first_by, least_by}
 use Rattle.lists.proofs.Bools.{split}
+use Rattle.lists.proofs.Searches.{first_some}
 
 module _ {A : Type 0} (p : A → Bool) where
   -- `xs.iter().any(p)`
@@ -49,6 +50,23 @@ module _ {A : Type 0} (p : A → Bool) where
       split (ltb (position_or_len p xs) (length xs))
       (λ t. rw t (first_len xs))
       (λ t. rw t (omega (arith, first_len xs, first_most xs, ltb-false _ _ t)))
+
+  -- where `position` answers, there is one, and its place is the first
+  pub found_at : (xs : List A) {i : ℕ} → position p xs ≡ Some i → (some p xs ≡ true) × (i ≡ first p xs) × (first p xs < length xs)
+  found_at xs e =
+      split (ltb (position_or_len p xs) (length xs))
+      (λ t. let here = rw t at e in
+      let same = first_len xs in
+      let within : first p xs < length xs = omega (arith, ltb-true _ _ t) in
+      (sym (first_some p xs) ∙ lt-ltb _ _ within, cc, within))
+      (λ t. let here = rw t at e in cc)
+
+  -- and where it does not, there is none
+  pub found_nowhere : (xs : List A) → position p xs ≡ None → some p xs ≡ false
+  found_nowhere xs e =
+      split (ltb (position_or_len p xs) (length xs))
+      (λ t. let here = rw t at e in cc)
+      (λ t. sym (first_some p xs) ∙ rw (first_len xs) t)
 
   -- `xs.iter().find(p)`, and d where there is none
   pub first_find : (d : A) (xs : List A) → first_by p d xs ≡ unwrap_or (find p xs) d
