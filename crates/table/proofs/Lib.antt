@@ -2,3 +2,4 @@ pub mod Steps
 pub mod Inside
 pub mod Sweeping
 pub mod Verdicts
+pub mod Asked

@@ -1,10 +1,10 @@
 -- `next_keep_alive_at` meets its contract: refused with 7 or served by a scan for the least.
 -- Assumes nothing.
-use Rattle.std.proofs.Common.{sym, ◌∙◌, arith, eq-eqb, ne_eqb}
+use Rattle.std.proofs.Common.{sym, ◌∙◌, eq-eqb, ne_eqb}
 use Rattle.places.specs.Calls.{alive_at}
 use Rattle.places.specs.Views.{view}
 use Rattle.rules.specs.Calls as call
-use Rattle.places.proofs.Refusing.{kept_counts, no_refusal, unkept}
+use Rattle.places.proofs.Refusing.{no_refusal, unkept}
 use Rattle.rules.proofs.Clauses.{alive_objects}
 use Rattle.table.proofs.next_keep_alive_at.Goals as goal
 
@@ -20,14 +20,9 @@ returns-then-table-eq0 c =
     let k = sym c.is_kept.ensures ∙ c.if-not-is_kept.false in
     rw (no_refusal t k call.next_keep_alive (alive_objects (view t)), eq-eqb _ _ c.if-table-eq0.true, alive_at)
 
-pub least_stored-requires : goal.least_stored-requires
-least_stored-requires c =
-    let b = kept_counts c.args.table (sym c.is_kept.ensures ∙ c.if-not-is_kept.false) in
-    omega arith
-
 pub returns : goal.returns
 unfolding alive_at
 returns c =
     let t = c.args.table in
     let k = sym c.is_kept.ensures ∙ c.if-not-is_kept.false in
-    rw (no_refusal t k call.next_keep_alive (alive_objects (view t)), ne_eqb _ _ c.if-table-eq0.false, ← c.least_stored.ensures, alive_at)
+    rw (no_refusal t k call.next_keep_alive (alive_objects (view t)), ne_eqb _ _ c.if-table-eq0.false, ← c.stored.ensures, ← c.least_due.ensures, alive_at)

@@ -7,4 +7,4 @@ pub returns-then-fabric-eq0 : goal.returns-then-fabric-eq0
 returns-then-fabric-eq0 c = rw (eq-eqb _ _ c.if-fabric-eq0.true)
 
 pub returns : goal.returns
-returns c = rw (ne_eqb _ _ c.if-fabric-eq0.false) c.count_stored.ensures
+returns c = rw (ne_eqb _ _ c.if-fabric-eq0.false) (rw (← c.stored.ensures) c.count_of_fabric.ensures)

@@ -11,7 +11,7 @@ returns-then-table-gt0 c = rw (lt-ltb _ _ c.if-table-gt0.true, purged_table)
 pub returns-then-table-gt0-2 : goal.returns-then-table-gt0-2
 unfolding purged_table
 returns-then-table-gt0-2 c =
-    rw (le-ltb _ _ c.if-table-gt0.false, lt-ltb _ _ c.if-table-gt0-2.true, purged_table) (rw (← c.one_at-first.ensures, ← c.least_stored.ensures, ← c.purge_up_to-after.ensures) c.with_log.ensures)
+    rw (le-ltb _ _ c.if-table-gt0.false, lt-ltb _ _ c.if-table-gt0-2.true, purged_table) (rw (← c.stored.ensures, ← c.least_seen.ensures, ← c.purge_up_to-after.ensures) c.with_log.ensures)
 
 pub returns : goal.returns
 unfolding purged_table

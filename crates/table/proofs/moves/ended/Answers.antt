@@ -1,6 +1,6 @@
 -- `ended` meets its contract: the two ways meet behind the flag, and on each the table is the definition's.
 -- Assumes nothing.
-use Rattle.std.proofs.Common.{◌≡◌, ℕ, Bool, cond, get_or, sym, ◌∙◌}
+use Rattle.std.proofs.Common.{◌≡◌, ◌+◌, ◌-◌, ℕ, Bool, cond, get_or, sym, ◌∙◌}
 use Rattle.subscription.specs.declared.Subscription.{Subscription}
 use Rattle.places.specs.declared.Table.{Table}
 use Rattle.places.specs.declared.Completion.TheVariants as completion
@@ -30,7 +30,7 @@ returns c =
     let a = c.args in
     let s = c.stays-stays.ensures in
     let r = c.reason_after.ensures in
-    sym (told a.table a.at a.outcome s c.has_failed.ensures
+    sym (told a.table (80 - a.table.opens + a.i) a.outcome s c.has_failed.ensures
     (elim c.if-stays.branch [
       | then-stays w ↦ w.table-is ∙ rw (w.if-stays.true, ← r, ← w.close.ensures)
       | else-stays w ↦ w.table-is ∙ rw (w.if-stays.false, ← r)
