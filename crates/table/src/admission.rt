@@ -7,7 +7,7 @@ ghost use Rattle.places.specs.Views.{stored_of, opens_of};
 ghost use Rattle.places.specs.Calls.{admit_objections};
 ghost use Rattle.table.specs.Scans.{as_verdict};
 
-use super::scans::{Test, find_open, find_stored};
+use super::scans::{any_with_id, open, stored};
 use places::Table;
 use refusal::Refusal;
 use subscription::Request;
@@ -41,10 +41,7 @@ fn is_live(table: Table, id: u32) -> bool
     requires { table.stored + table.opens ≤ 80 }
     ensures { result ≡ (some (has_id id) (stored_of table) || some (has_id id) (opens_of table)) }
 {
-    if find_stored(table, Test::Id(id)) < table.stored {
-        return true;
-    }
-    find_open(table, Test::Id(id)) < 80
+    any_with_id(stored(&table), id) || any_with_id(open(&table), id)
 }
 
 // The greater of the next id and the one after a given id, which wraps.

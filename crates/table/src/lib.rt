@@ -21,7 +21,7 @@ use answers::{Change, Told};
 use changes::ChangedAttrs;
 use choices::Choice;
 use instants::Instant;
-use keeping::{cancel_fits, either, lives, within};
+use keeping::{cancel_fits, lives, within};
 use moves::{
     emptied, ended, handed, opened_up, reason_after, stored_last, swept, with_cancel, with_log,
     with_next,
@@ -31,7 +31,10 @@ use places::{
     Moment, Reported, Settled, Table, TableNoted, Waking, Woken,
 };
 use refusal::Refusal;
-use scans::{Measure, Test, count_stored, find_open, find_stored, least_stored, one_at};
+use scans::{
+    any_chosen, any_priming, any_report, any_served, any_struck, count_of_fabric, first_ready,
+    first_with_id, least_due, least_next, least_seen, one_with_id, open, stored,
+};
 use subscription::{ABANDONED, Request, Settings, Subscription};
 use time::KeepAlive;
 
@@ -110,11 +113,10 @@ pub fn complete(table: Table, id: u32, outcome: u8) -> Completed
     if ABANDONED < outcome {
         return not_completed(table, Refusal::BadArgument);
     }
-    let at = find_open(table, Test::Id(id));
-    if 80 <= at {
+    let Some(i) = first_with_id(open(&table), id) else {
         return not_completed(table, Refusal::NotOpen);
-    }
-    ended(table, at, outcome)
+    };
+    ended(table, i, outcome)
 }
 
 // The stored ones that the choice takes go, and the open report is cancelled if it is among them. Primings stay.
@@ -128,10 +130,7 @@ pub fn remove(table: Table, choice: Choice, reason: u8) -> Woken
         return not_woken(table, Refusal::BadArgument);
     }
     let cancels = cancels(table, choice);
-    let wakes = either(
-        find_stored(table, Test::Chosen(choice)) < table.stored,
-        cancels,
-    );
+    let wakes = any_chosen(stored(&table), choice) || cancels;
     Woken {
         answer: Waking::Wakes(wakes),
         table: with_cancel(
@@ -148,10 +147,10 @@ pub fn clear(table: Table) -> Woken
     if !is_kept(table) {
         return not_woken(table, Refusal::NotWellKept);
     }
-    if find_open(table, Test::Priming) < 80 {
+    if any_priming(open(&table)) {
         return not_woken(table, Refusal::PrimingOpen);
     }
-    let cancels = find_open(table, Test::Report) < 80;
+    let cancels = any_report(open(&table));
     Woken {
         answer: Waking::Wakes(false),
         table: with_cancel(emptied(table), reason_after(cancels, CLEARED, table.cancel)),
@@ -204,7 +203,7 @@ pub fn report(table: Table, at: Settings) -> Reported
     if !is_kept(table) {
         return not_reported(table, Refusal::NotWellKept);
     }
-    if find_open(table, Test::Report) < 80 {
+    if any_report(open(&table)) {
         return not_reported(table, Refusal::ReportOpen);
     }
     hand_out(table, at)
@@ -217,11 +216,9 @@ pub fn should_report_attr(table: Table, id: u32, endpoint: u16, cluster: u32, at
     if !is_kept(table) {
         return Told::Refused(Refusal::NotWellKept);
     }
-    let at = find_open(table, Test::Id(id));
-    if 80 <= at {
+    let Some(x) = one_with_id(open(&table), id) else {
         return Told::Refused(Refusal::NotOpen);
-    }
-    let x = one_at(table, at);
+    };
     let reported = x.reported;
     if reported.is_never() {
         return Told::Is(true);
@@ -237,11 +234,9 @@ pub fn should_send_if_empty(table: Table, id: u32, kind: KeepAlive) -> Told
     if !is_kept(table) {
         return Told::Refused(Refusal::NotWellKept);
     }
-    let at = find_open(table, Test::Id(id));
-    if 80 <= at {
+    let Some(x) = one_with_id(open(&table), id) else {
         return Told::Refused(Refusal::NotOpen);
-    }
-    let x = one_at(table, at);
+    };
     let opened = x.opened;
     Told::Is(x.is_report_due(opened, kind))
 }
@@ -262,9 +257,7 @@ pub fn next_report_at(table: Table, events: u64, kind: KeepAlive) -> Moment
         kind: kind,
         all: false,
     };
-    Moment::At(Instant {
-        ms: least_stored(table, Measure::Next(at, newest), last.ms),
-    })
+    Moment::At(least_next(stored(&table), at, newest))
 }
 
 // Whether a stored one is reportable now.
@@ -282,7 +275,7 @@ pub fn any_reportable(table: Table, now: Instant, events: u64, kind: KeepAlive) 
         kind: kind,
         all: false,
     };
-    Told::Is(find_stored(table, Test::Ready(at, newest)) < table.stored)
+    Told::Is(first_ready(stored(&table), at, newest).is_some())
 }
 
 // When an intermittently connected device wakes up for its subscriptions at the latest.
@@ -295,10 +288,7 @@ pub fn next_keep_alive_at(table: Table) -> Alive
     if table.stored == 0 {
         return Alive::Never;
     }
-    let last = Instant::LAST;
-    Alive::At(Instant {
-        ms: least_stored(table, Measure::Due, last.ms),
-    })
+    Alive::At(least_due(stored(&table)))
 }
 
 // Figures for the status page: counted places, the stored of a fabric (0 where none is asked), and the ids given so far.
@@ -322,7 +312,7 @@ pub fn has_subscription_for(table: Table, fabric: u8, peer: u64) -> Told
     if !is_kept(table) {
         return Told::Refused(Refusal::NotWellKept);
     }
-    Told::Is(find_stored(table, Test::Served(fabric, peer)) < table.stored)
+    Told::Is(any_served(stored(&table), fabric, peer))
 }
 
 // Whether the table is well kept.
@@ -407,8 +397,7 @@ fn hand_out(table: Table, at: Settings) -> Reported
 {
     let log = table.log;
     let newest = log.newest().value();
-    let i = find_stored(table, Test::Ready(at, newest));
-    if i < table.stored {
+    if let Some(i) = first_ready(stored(&table), at, newest) {
         return handed(table, i, log.watermark().value(), at);
     }
     Reported {
@@ -422,10 +411,7 @@ fn cancels(table: Table, choice: Choice) -> bool
     requires { table.opens ≤ 80 }
     ensures { result ≡ cancels_in table choice }
 {
-    if table.cancel == 0 {
-        return find_open(table, Test::Struck(choice)) < 80;
-    }
-    false
+    table.cancel == 0 && any_struck(open(&table), choice)
 }
 
 // No removal gives the reason 0, which says that nothing is cancelled, nor that of clearing.
@@ -448,8 +434,7 @@ fn purged(table: Table) -> Table
     }
     let log = table.log;
     if 0 < table.stored {
-        let first = one_at(table, 0);
-        let after = log.purge_up_to(least_stored(table, Measure::Seen, first.seen));
+        let after = log.purge_up_to(least_seen(stored(&table), table.places[0].seen));
         let left = after.log;
         return with_log(table, left);
     }
@@ -466,7 +451,7 @@ fn of_fabric(table: Table, fabric: u8) -> usize
     if fabric == 0 {
         return 0;
     }
-    count_stored(table, Test::Fabric(fabric))
+    count_of_fabric(stored(&table), fabric)
 }
 
 fn less_one(n: u32) -> u32
