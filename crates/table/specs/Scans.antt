@@ -1,6 +1,6 @@
 -- What the code's own parts promise: what the pass over the live ones finds, and a verdict.
 -- Assumes nothing.
-use Rattle.std.specs.Prelude.{◌≡◌, ℕ, Bool, List, ◌++◌, map, length, take}
+use Rattle.std.specs.Prelude.{◌≡◌, List, ◌++◌, map, length, take}
 use Rattle.std.proofs.Math.Option.{Option, none, some as just}
 use Rattle.refusal.specs.declared.Refusal.{Refusal}
 use Rattle.subscription.specs.declared.Subscription.{Subscription}

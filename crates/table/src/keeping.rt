@@ -1,12 +1,13 @@
 // The well-kept test's parts: the counts, one pass over the live ones, and the cancel reason.
-ghost use Rattle.std.specs.Prelude.{◌≡◌, ◌+◌, ◌^◌, ◌<◌, ◌≤◌, ◌&&◌, ◌||◌, ◌==◌, nat_le, nat_lt};
-ghost use Rattle.lists.specs.Search.{one};
-ghost use Rattle.rules.specs.States.{capacity_fits};
-ghost use Rattle.places.specs.Views.{stored_of, opens_of, place_of};
+ghost use Rattle.std.specs.Prelude.{◌≡◌, ◌+◌, ◌≤◌, ◌&&◌, ◌||◌, ◌==◌, ◌++◌, nat_le, nat_lt, map, drop, length};
+ghost use Rattle.std.specs.List.{list_any};
+ghost use Rattle.lists.specs.Search.{count};
+ghost use Rattle.subscription.specs.declared.Subscription.{Subscription};
+ghost use Rattle.rules.specs.States.{capacity_fits, is_report, fabric_zero};
 ghost use Rattle.table.specs.Scans.{Lived};
 
 use super::PLACES;
-use places::Table;
+use subscription::Subscription;
 
 // What one pass over the live ones finds.
 #[derive(Clone, Copy)]
@@ -17,83 +18,58 @@ pub(crate) struct Pass {
 }
 
 // The ids of the live ones, whether one has no fabric, and how many of the open ones are reports.
-pub(crate) fn lives(table: Table) -> Pass
-    requires { table.stored + table.opens ≤ 80 }
-    ensures { Lived (stored_of table) (opens_of table) result }
+pub(crate) fn lives(stored: &[Subscription], open: &[Subscription]) -> Pass
+    requires { length stored.now + length open.now ≤ 80 }
+    ensures { Lived stored.now open.now result }
 {
-    let stored = table.stored;
-    let n = stored + table.opens;
-    let gap = PLACES - n;
-    let mut ids = [0u32; 80];
-    let mut orphan = false;
-    let mut reports: usize = 0;
-    let mut i: usize = 0;
-    while i < n {
-        let at = place_of(i, stored, gap);
-        let x = table.places[at];
-        ids[i] = x.id;
-        orphan = either(orphan, x.fabric == 0);
-        reports += one_if_both(stored <= i, x.reporting);
-        i += 1;
-    }
+    let mut ids = [0; PLACES];
+    copy_ids(&mut ids, stored);
+    copy_ids(&mut ids[stored.len()..], open);
     Pass {
-        ids: ids,
-        orphan: orphan,
-        reports: reports,
+        ids,
+        orphan: any_orphan(stored) || any_orphan(open),
+        reports: count_reports(open),
     }
+}
+
+// The ids of the subscriptions into the first places.
+fn copy_ids(ids: &mut [u32], xs: &[Subscription])
+    requires { length xs.now ≤ length ids.old }
+    ensures { ids.new ≡ map (λ (x : Subscription). x.id) xs.now ++ drop (length xs.now) ids.old }
+{
+    for (i, x) in xs.iter().enumerate() {
+        ids[i] = x.id;
+    }
+}
+
+// Whether one has no fabric.
+fn any_orphan(xs: &[Subscription]) -> bool
+    ensures { result ≡ list_any fabric_zero xs.now }
+{
+    xs.iter().any(|x| x.fabric == 0)
+}
+
+#[tactic(auto, using(lists::proofs::Library::count_filter))]
+fn count_reports(xs: &[Subscription]) -> usize
+    ensures { result ≡ count is_report xs.now }
+{
+    xs.iter().filter(|x| x.reporting).count()
 }
 
 // Whether the capacity is one, and the counts are within it.
 pub(crate) fn within(capacity: u8, stored: usize, opens: usize) -> bool
     ensures { result ≡ (capacity_fits capacity && nat_le (stored + opens) capacity) }
 {
-    if capacity == 0 {
-        return false;
-    }
-    if 80 < capacity {
-        return false;
-    }
-    let most = capacity as usize;
-    if most < stored {
-        return false;
-    }
-    opens <= most - stored
+    1 <= capacity
+        && capacity <= 80
+        && stored
+            .checked_add(opens)
+            .is_some_and(|live| live <= usize::from(capacity))
 }
 
 // At most one report is open, and a cancel reason is there only with it.
 pub(crate) fn cancel_fits(reports: usize, cancel: u8) -> bool
     ensures { result ≡ (nat_le reports 1 && (cancel == 0 || nat_lt 0 reports)) }
 {
-    if 1 < reports {
-        return false;
-    }
-    if cancel == 0 {
-        return true;
-    }
-    0 < reports
-}
-
-// Where the i-th live one stands: the open ones begin behind a gap.
-fn place_of(i: usize, stored: usize, gap: usize) -> usize
-    requires { i + gap < 2 ^ 32 }
-    ensures { result ≡ place_of i stored gap }
-{
-    if i < stored { i } else { i + gap }
-}
-
-pub(crate) fn either(a: bool, b: bool) -> bool
-    ensures { result ≡ (a || b) }
-{
-    if a { true } else { b }
-}
-
-fn one_if_both(a: bool, b: bool) -> usize
-    ensures { result ≡ one (a && b) }
-{
-    if a {
-        if b {
-            return 1;
-        }
-    }
-    0
+    reports <= 1 && (cancel == 0 || 0 < reports)
 }

@@ -1,8 +1,11 @@
 -- `is_kept` meets its contract: with the counts within the capacity each test is a clause of the rule, and the rest is `Keeping`'s.
 -- Assumes nothing.
-use Rattle.std.proofs.Common.{◌≡◌, ℕ, ◌+◌, ◌≤◌, Bool, List, ◌++◌, map, length, take, sym, ap, ◌∙◌, arith, length-take-le, rules}
+use Rattle.std.proofs.Common.{◌≡◌, ℕ, ◌+◌, ◌-◌, ◌≤◌, Bool, List, ◌++◌, map, length, take, sym, ap, ◌∙◌, arith, length-drop, length-take-le, rules}
 use mathlib.Core.Bool.{and-false}
+use Rattle.subscription.specs.declared.Subscription.{Subscription}
 use Rattle.places.specs.declared.Table.{Table}
+use Rattle.table.specs.declared.keeping.Pass.{Pass}
+use Rattle.table.specs.Scans.{Lived}
 use Rattle.places.specs.Views.{stored_of, opens_of}
 use Rattle.lists.specs.Search.{distinct}
 use Rattle.table.proofs.Inside.{not_within, counts_fit, within_kept}
@@ -20,6 +23,10 @@ differ_is t ids all fits e f =
     ∙ ap (distinct (λ n. n)) e
     ∙ distinct_map (λ x. x.id) (λ n. n) (stored_of t ++ opens_of t)
 
+-- what the pass finds of the slices is what it finds of the table
+lived : {s o : List Subscription} {r : Pass} (t : Table) → s ≡ stored_of t → o ≡ opens_of t → Lived s o r → Lived (stored_of t) (opens_of t) r
+lived t e f h = rw (← e, ← f) h
+
 pub returns-then-not-within : goal.returns-then-not-within
 returns-then-not-within c =
     sym (not_within c.args.table (sym c.within.ensures ∙ c.if-not-within.true))
@@ -31,14 +38,17 @@ returns-then-not-is_kept c =
 
 pub lives-lives-requires : goal.lives-lives-requires
 lives-lives-requires c =
-    counts_fit c.args.table (search rules) (sym c.within.ensures ∙ c.if-not-within.false)
+    let t = c.args.table in
+    let fits = counts_fit t (search rules) (sym c.within.ensures ∙ c.if-not-within.false) in
+    omega (arith, length-take-le t.stored t.places (search rules), length-drop (80 - t.opens) t.places, ap length c.stored.ensures, ap length c.open.ensures)
 
 pub returns-then-lives : goal.returns-then-lives
 returns-then-lives c =
     let t = c.args.table in
+    let live = lived t c.stored.ensures c.open.ensures c.lives-lives.ensures in
     let w = sym c.within.ensures ∙ c.if-not-within.false in
     sym (within_kept t (search rules) w
-    ∙ rw (sym c.is_kept.ensures ∙ c.if-not-is_kept.false, sym c.lives-lives.ensures.orphan_is ∙ c.if-lives.true)
+    ∙ rw (sym c.is_kept.ensures ∙ c.if-not-is_kept.false, sym live.orphan_is ∙ c.if-lives.true)
     (and-false (distinct (λ x. x.id) (stored_of t ++ opens_of t))))
 
 pub overflow_add-n : goal.overflow_add-n
@@ -62,18 +72,20 @@ slice_bounds-all_differ-end c =
 pub returns-then-not-all_differ : goal.returns-then-not-all_differ
 returns-then-not-all_differ c =
     let t = c.args.table in
+    let live = lived t c.stored.ensures c.open.ensures c.lives-lives.ensures in
     let w = sym c.within.ensures ∙ c.if-not-within.false in
     let b = counts_fit t (search rules) w in
-    let d = differ_is t c.lives-lives.result.ids (search rules) b c.lives-lives.ensures.ids_are c.all_differ.ensures in
+    let d = differ_is t c.lives-lives.result.ids (search rules) b live.ids_are c.all_differ.ensures in
     sym (within_kept t (search rules) w
     ∙ rw (sym c.is_kept.ensures ∙ c.if-not-is_kept.false, sym d ∙ c.if-not-all_differ.true))
 
 pub returns : goal.returns
 returns c =
     let t = c.args.table in
+    let live = lived t c.stored.ensures c.open.ensures c.lives-lives.ensures in
     let w = sym c.within.ensures ∙ c.if-not-within.false in
     let b = counts_fit t (search rules) w in
-    let d = differ_is t c.lives-lives.result.ids (search rules) b c.lives-lives.ensures.ids_are c.all_differ.ensures in
+    let d = differ_is t c.lives-lives.result.ids (search rules) b live.ids_are c.all_differ.ensures in
     sym (within_kept t (search rules) w
-    ∙ rw (sym c.is_kept.ensures ∙ c.if-not-is_kept.false, sym d ∙ c.if-not-all_differ.false, sym c.lives-lives.ensures.orphan_is ∙ c.if-lives.false, ← c.lives-lives.ensures.reports_are)
+    ∙ rw (sym c.is_kept.ensures ∙ c.if-not-is_kept.false, sym d ∙ c.if-not-all_differ.false, sym live.orphan_is ∙ c.if-lives.false, ← live.reports_are)
     (sym c.cancel_fits.ensures))
