@@ -328,7 +328,7 @@ pub fn is_kept(table: Table) -> bool
     if !log.is_kept() {
         return false;
     }
-    let lives = lives(table);
+    let lives = lives(scans::stored(&table), open(&table));
     if lives.orphan {
         return false;
     }
