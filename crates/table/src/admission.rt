@@ -38,7 +38,6 @@ pub(crate) fn admits(table: Table, request: Request, id: u32) -> Verdict
 }
 
 fn is_live(table: Table, id: u32) -> bool
-    requires { table.stored + table.opens ≤ 80 }
     ensures { result ≡ (some (has_id id) (stored_of table) || some (has_id id) (opens_of table)) }
 {
     any_with_id(stored(&table), id) || any_with_id(open(&table), id)

@@ -12,7 +12,7 @@ use subscription::Subscription;
 // What one pass over the live ones finds.
 #[derive(Clone, Copy)]
 pub(crate) struct Pass {
-    pub(crate) ids: [u32; 80],
+    pub(crate) ids: [u32; PLACES],
     pub(crate) orphan: bool,
     pub(crate) reports: usize,
 }

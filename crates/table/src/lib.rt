@@ -408,7 +408,6 @@ fn hand_out(table: Table, at: Settings) -> Reported
 
 // Whether a removal cancels the open report: it is taken, and not cancelled yet.
 fn cancels(table: Table, choice: Choice) -> bool
-    requires { table.opens ≤ 80 }
     ensures { result ≡ cancels_in table choice }
 {
     table.cancel == 0 && any_struck(open(&table), choice)
@@ -426,7 +425,6 @@ fn is_bad_reason(reason: u8) -> bool
 
 // The table without the entries that every stored one has seen.
 fn purged(table: Table) -> Table
-    requires { table.stored ≤ 80 }
     ensures { result ≡ purged_table table }
 {
     if 0 < table.opens {
@@ -445,7 +443,6 @@ fn purged(table: Table) -> Table
 
 // How many stored ones are of the fabric; none where no fabric is asked.
 fn of_fabric(table: Table, fabric: u8) -> usize
-    requires { table.stored ≤ 80 }
     ensures { result ≡ fabric_count table fabric }
 {
     if fabric == 0 {

@@ -19,11 +19,6 @@ overflow_add-result c =
     let b = kept_counts c.args.table (sym c.is_kept.ensures ∙ c.if-not-is_kept.false) in
     search rules
 
-pub of_fabric-requires : goal.of_fabric-requires
-of_fabric-requires c =
-    let b = kept_counts c.args.table (sym c.is_kept.ensures ∙ c.if-not-is_kept.false) in
-    search rules
-
 pub returns : goal.returns
 unfolding load_of
 returns c =

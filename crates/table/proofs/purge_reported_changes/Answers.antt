@@ -13,11 +13,6 @@ unfolding purge_in
 returns-then-not-is_kept c =
     rw (unkept c.args.table (sym c.is_kept.ensures ∙ c.if-not-is_kept.true) call.purge, purge_in)
 
-pub purged-requires : goal.purged-requires
-purged-requires c =
-    let b = kept_counts c.args.table (sym c.is_kept.ensures ∙ c.if-not-is_kept.false) in
-    omega arith
-
 pub returns : goal.returns
 unfolding purge_in
 returns c =

@@ -26,11 +26,6 @@ returns-then-is_bad_reason c =
     let k = sym c.is_kept.ensures ∙ c.if-not-is_kept.false in
     rw (past_kept a.table k (call.remove a.choice a.reason) ∙ ap first_of (remove_objects (view a.table) a.choice a.reason) ∙ first_holds BadArgument [] (sym c.is_bad_reason.ensures ∙ c.if-is_bad_reason.true), remove_in) c.not_woken-then-is_bad_reason.ensures
 
-pub cancels-cancels-requires : goal.cancels-cancels-requires
-cancels-cancels-requires c =
-    let b = kept_counts c.args.table (sym c.is_kept.ensures ∙ c.if-not-is_kept.false) in
-    omega arith
-
 pub swept-requires : goal.swept-requires
 swept-requires c =
     let b = kept_counts c.args.table (sym c.is_kept.ensures ∙ c.if-not-is_kept.false) in
