@@ -2,7 +2,7 @@
 // document 01's other numbers in their order; a refusal hands back the table as it was. How a table lies in memory, what a call is told and
 // what it does to the table is crate places' matter.
 //
-// A function that indexes the table hands it to nobody, and one that hands it on indexes nothing: so it is copied once for each.
+// A function that changes the table's places hands it to nobody, and one that hands it on only looks at them: so it is copied once for each.
 #![tactic(auto)]
 
 mod admission;
