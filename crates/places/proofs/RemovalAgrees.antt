@@ -30,7 +30,7 @@ use Rattle.places.proofs.Agreeing.{agreeing}
 
 module _ (p : Subscription → Bool) where
   -- what the loop holds in the end is what the scan of the list leaves
-  swept_scan : (f i n : ℕ) (l : List Subscription) → n - i ≡ f → i ≤ n → n ≤ length l
+  pub swept_scan : (f i n : ℕ) (l : List Subscription) → n - i ≡ f → i ≤ n → n ≤ length l
       → take (swept_from p f i n l).count (swept_from p f i n l).places ≡ scanned p i n l
   unfolding swept_from
   swept_scan zero i n l e h room = sym (scan_done p n l room i h (omega arith))
@@ -46,7 +46,7 @@ module _ (p : Subscription → Bool) where
       (swept_scan f (i + 1) n l (omega arith) (omega arith) room ∙ sym (scan_kept p i n l blank room (omega arith) t)))
 
   -- and what stands behind the held places stays
-  swept_rest : (f i n k : ℕ) (l : List Subscription) → n - i ≡ f → n ≤ k → drop k (swept_from p f i n l).places ≡ drop k l
+  pub swept_rest : (f i n k : ℕ) (l : List Subscription) → n - i ≡ f → n ≤ k → drop k (swept_from p f i n l).places ≡ drop k l
   unfolding swept_from
   swept_rest zero i n k l e h = refl
   swept_rest (suc f) i n k l e h =

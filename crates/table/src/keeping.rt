@@ -22,7 +22,7 @@ pub(crate) fn is_sound(stored: &[Subscription], open: &[Subscription], cancel: u
 // What one pass over the live ones finds.
 #[derive(Clone, Copy)]
 struct Pass {
-    ids: [u32; 80],
+    ids: [u32; PLACES],
     orphan: bool,
     reports: usize,
 }

@@ -9,6 +9,7 @@ use super::PLACES;
 use choices::Choice;
 use places::{Ended, Handed, Table};
 use subscription::{Settings, Subscription};
+use sweeping::sweep;
 
 // The stored one at a place is handed out: the last stored one fills its place, and it opens at the far end.
 pub(crate) fn handed(table: &mut Table, i: usize, mark: u64, at: Settings) -> Handed
@@ -68,18 +69,11 @@ pub(crate) fn swept(table: &mut Table, choice: Choice)
     requires { (table.old.stored ≤ 80) × (length table.old.places ≡ 80) }
     ensures { table.new ≡ swept_out (chosen choice) table.old }
 {
-    let mut n = table.stored;
-    let mut i = 0;
-    while i < n {
-        if choice.takes(table.places[i]) {
-            n -= 1;
-            table.places[i] = table.places[n];
-            table.places[n] = Subscription::BLANK;
-        } else {
-            i += 1;
-        }
-    }
-    table.stored = n;
+    let stored = table.stored;
+    let places = &mut table.places;
+    let left = sweep(&mut places[..stored], |x| choice.takes(*x));
+    places[left..stored].fill(Subscription::BLANK);
+    table.stored = left;
 }
 
 // The table with nothing stored.
