@@ -1,6 +1,6 @@
 -- What a line does by document 01's rules: the line's call of the machine of crate rules, and its answer's code and value.
 -- Assumes nothing.
-use Rattle.std.specs.Prelude.{Option, Some, None}
+use Rattle.std.specs.Prelude.{Option, Some, None, ℕ}
 use Rattle.lists.specs.Search.{one}
 use Rattle.refusal.specs.declared.Refusal.TheVariants.{BadLine}
 use Rattle.instants.specs.Instants.{instant}
@@ -12,9 +12,8 @@ use Rattle.rules.specs.Calls as call
 use Rattle.lines.specs.declared.Line.{Line}
 use Rattle.lines.specs.declared.Line.TheVariants.{New, Add, Note, Report, Done, Attr, Wake, Bad}
 use Rattle.places.specs.Views.{view}
-use Rattle.answering.specs.declared.Answered.{Answered}
-use Rattle.answering.specs.declared.Reply.{Reply}
-use Rattle.answering.specs.Replies.{told, refused_with}
+use Rattle.places.specs.Calls.{Tabled}
+use Rattle.answering.specs.Replies.{Reply, told, refused_with, reply_to}
 use Rattle.answering.specs.Answers.{request_of, settings_of}
 
 -- the call of a line: "new,capacity / add,now,fabric,peer,min,max,events,rx / note,endpoint,cluster,attribute / report,now,events,icd,all /
@@ -63,5 +62,5 @@ unfoldable pub line_step : Line → State → Said
 line_step l s = line_by (call_of l) s
 
 -- what the code answers, as the rules say it
-abbrev pub spoken : Answered → Said
-spoken a = record { reply = a.reply; state = view a.table }
+abbrev pub spoken : Tabled ℕ → Said
+spoken r = record { reply = reply_to r.answer; state = view r.table }
