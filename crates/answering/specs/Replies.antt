@@ -3,6 +3,7 @@
 use Rattle.std.specs.Prelude.{ℕ, Option, Some, None, Result, Ok, Err}
 use Rattle.refusal.specs.declared.Refusal.{Refusal}
 use Rattle.refusal.specs.Numbers.{number_of}
+use Rattle.answers.specs.Numbers.{answer_number, mark_value}
 use Rattle.places.specs.declared.Handed.{Handed}
 use Rattle.places.specs.Calls.{Tabled, tabled}
 
@@ -21,8 +22,7 @@ refused_with why = record { code = number_of why; value = 0 }
 
 -- an answer's code and value
 abbrev pub reply_to : Result ℕ Refusal → Reply
-reply_to (Ok value) = told value
-reply_to (Err why) = refused_with why
+reply_to answer = record { code = answer_number answer; value = mark_value answer }
 
 -- an answer with the value that f gives of what was answered
 abbrev pub valued : {A : Type 0} → (A → ℕ) → Result A Refusal → Result ℕ Refusal

@@ -1,10 +1,9 @@
-// The answers of the change log. A call answers with a `Result`: the value, or the refusal. Document 01's numbers of an answer are in specs/.
-// Which call gives which answer is crate changes' matter; the table answers with some of them too.
+// The answers of the change log. A call answers with a `Result`: the value, or the refusal. Which call gives which answer is crate changes' matter; the table answers with some of them too.
 #![tactic(auto)]
 
 ghost use Rattle.std.specs.Prelude.{◌≡◌};
 ghost use Rattle.lists.specs.Search.{one};
-ghost use Rattle.answers.specs.Numbers.{mark_value, says_yes};
+ghost use Rattle.answers.specs.Numbers.{answer_number, mark_value, says_yes};
 
 use refusal::Refusal;
 
@@ -12,6 +11,16 @@ use refusal::Refusal;
 #[derive(Clone, Copy, Debug, PartialEq, Eq)]
 pub struct Entered {
     pub identity: u64,
+}
+
+// Document 01's number of an answer: 0 where the call acted, the refusal's number where it refused.
+pub fn code<A: Copy>(answer: Result<A, Refusal>) -> u8
+    ensures { result ≡ answer_number answer }
+{
+    match answer {
+        Ok(_) => 0,
+        Err(why) => why.number(),
+    }
 }
 
 // Whether a question was answered yes; a refusal is no answer.

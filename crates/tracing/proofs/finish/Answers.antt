@@ -12,5 +12,5 @@ pub returns : goal.returns
 returns c =
     finish_answered _ _ _ _ c.close-t.ensures (sym c.ends.ensures ∙ c.if-not-ends.false) _ _ _ _
     c.line_in.ensures
-    c.answer-a.ensures
-    c.put_answer.ensures
+    c.answer-said.ensures
+    (rw (c.code.ensures, c.value.ensures) at c.put_answer.ensures)
