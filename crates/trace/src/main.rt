@@ -22,7 +22,7 @@ fn main(rt: HostRuntime) -> io::Result<()> {
     let mut session = tracing::start();
     for _ in 0..u64::MAX {
         let n = input.read(&mut chunk)?;
-        session = answered(&mut output, session, &mut held, &chunk[..n])?;
+        answered(&mut output, &mut session, &mut held, &chunk[..n])?;
         if n == 0 || MOST_LINES <= session.reading.number {
             return finished(&mut output, session, &held);
         }
@@ -33,19 +33,18 @@ fn main(rt: HostRuntime) -> io::Result<()> {
 // All of a chunk: a run for each output buffer that it fills.
 fn answered(
     output: &mut impl Write,
-    mut session: Session,
+    session: &mut Session,
     held: &mut [u8],
     s: &[u8],
-) -> io::Result<Session> {
+) -> io::Result<()> {
     let mut out = [0u8; CHUNK];
     let mut rest = s;
     while !rest.is_empty() {
         let r = tracing::run(session, held, rest, &mut out);
-        session = r.session;
         output.write_all(&out[..r.wrote])?;
         rest = &rest[r.used..];
     }
-    Ok(session)
+    Ok(())
 }
 
 fn finished(output: &mut impl Write, session: Session, held: &[u8]) -> io::Result<()> {
