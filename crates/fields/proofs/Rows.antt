@@ -104,11 +104,6 @@ none_left j n e = eq-eqb (n - (j + 1)) 0 (omega arith)
 pub some_left : (j n : ℕ) → j < n → (j + 1 ≡ n → ⊥) → eqb (n - (j + 1)) 0 ≡ false
 some_left j n h ne = ne_eqb (n - (j + 1)) 0 (λ z. ne (omega arith))
 
--- where no width is asked for, nothing is read
-pub numbers_unasked : (s : List ℕ) → numbers_of [] s ≡ None
-unfolding numbers_of numbers_from
-numbers_unasked s = refl
-
 -- few enough widths are read from the first place on
 pub numbers_begin : (ws s : List ℕ) → leb (length ws) places ≡ true → numbers_of ws s ≡ numbers_from ws (replicate places 0) 0 s
 unfolding numbers_of

@@ -78,6 +78,7 @@ fn fed(
     s: &[u8],
 ) -> io::Result<()> {
     let mut rest = s;
+    // A `while`, since each turn takes as many bytes as its scan does.
     while !rest.is_empty() {
         let t = scan(state.reading, held, rest);
         state.reading = t.reading;

@@ -39,6 +39,7 @@ fn answered(
 ) -> io::Result<()> {
     let mut out = [0u8; CHUNK];
     let mut rest = s;
+    // A `while`, since each turn takes as many bytes as its run does.
     while !rest.is_empty() {
         let r = tracing::run(session, held, rest, &mut out);
         output.write_all(&out[..r.wrote])?;
