@@ -1,12 +1,10 @@
--- One turn of the loops that take stored ones out of the array, and what they come to.
+-- One turn of the loop that takes stored ones out of the array, and what it comes to.
 -- Assumes nothing.
-use Rattle.std.proofs.Common.{◌≡◌, ℕ, suc, ◌+◌, ◌-◌, ◌<◌, ◌≤◌, Bool, true, false, List, ◌++◌, length, get_or, drop, set, replicate, sym, ap, ◌∙◌, append_assoc, add-one, arith, drop-cons}
-use lib.ListN.{length-replicate, replicate-append-replicate}
-use lib.Seq.{set_at}
+use Rattle.std.proofs.Common.{◌≡◌, ℕ, suc, ◌+◌, ◌-◌, ◌<◌, ◌≤◌, Bool, true, false, List, get_or, sym, ap, ◌∙◌, arith}
 use Rattle.subscription.specs.declared.Subscription.{Subscription}
 use Rattle.places.specs.declared.Table.{Table}
 use Rattle.subscription.specs.Life.{blank}
-use Rattle.places.specs.Moves.{with_places, swapped, swept_from, swept_out, emptied}
+use Rattle.places.specs.Moves.{with_places, swapped, swept_from, swept_out}
 
 -- a table that differs from another in its places alone
 abbrev pub SameBut : Table → Table → Type 0
@@ -43,20 +41,3 @@ sweep_end p t₀ t i n e f h =
 pub sweep_start : (p : Subscription → Bool) (t : Table)
     → swept_from p t.stored 0 t.stored t.places ≡ swept_from p (t.stored - 0) 0 t.stored t.places
 sweep_start p t = let f : t.stored - 0 ≡ t.stored = omega arith in rw f
-
--- blanks up to i, and one more
-pub blank_more : (l : List Subscription) (i : ℕ) → i < length l
-    → set (replicate i blank ++ drop i l) i blank ≡ replicate (i + 1) blank ++ drop (i + 1) l
-blank_more l i h =
-    rw (
-      drop-cons l i blank h,
-      set_at (replicate i blank) (get_or l i blank) (drop (suc i) l) blank i (length-replicate i blank),
-      ← replicate-append-replicate i 1 blank,
-      append_assoc,
-      add-one,
-    )
-
-pub empty_end : (t₀ t : Table) (i : ℕ) → SameBut t₀ t → t.places ≡ replicate i blank ++ drop i t₀.places → i ≡ t₀.stored
-    → with_places t t.places 0 t.opens ≡ emptied t₀
-unfolding emptied
-empty_end t₀ t i e f g = ap (λ u. with_places u t.places 0 u.opens) e ∙ rw (f, g)

@@ -1,10 +1,10 @@
 -- `purge_reported_changes` meets its contract: refused with 7, or what `purged` ensures.
 -- Assumes nothing.
-use Rattle.std.proofs.Common.{sym, ◌∙◌, arith}
+use Rattle.std.proofs.Common.{sym, ◌∙◌}
 use Rattle.places.specs.Calls.{purge_in}
 use Rattle.places.specs.Views.{view}
 use Rattle.rules.specs.Calls as call
-use Rattle.places.proofs.Refusing.{kept_counts, no_refusal, unkept}
+use Rattle.places.proofs.Refusing.{no_refusal, unkept}
 use Rattle.rules.proofs.Clauses.{purge_objects}
 use Rattle.table.proofs.purge_reported_changes.Goals as goal
 
