@@ -18,6 +18,7 @@ pub enum Choice {
 }
 
 impl Choice {
+    #[tactic(auto, unfolding(crate::specs::Choices::chosen))]
     pub fn takes(self, s: Subscription) -> bool
         ensures { result ≡ chosen self s }
     {

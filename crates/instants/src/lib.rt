@@ -23,6 +23,7 @@ impl Instant {
     }
 
     // The instant that lies so many seconds after this one, if there is one.
+    #[tactic(auto, unfolding(crate::specs::Instants::later))]
     pub fn checked_add(self, secs: u16) -> Option<Instant>
         ensures { result ≡ later self secs }
     {

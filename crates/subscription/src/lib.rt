@@ -87,6 +87,7 @@ impl Subscription {
     };
 
     // A fresh priming. It has seen every change so far, since its priming report tells everything, and no event. It opens as a report does.
+    #[tactic(auto, unfolding(crate::specs::Life::priming, crate::specs::Life::resumed, crate::specs::Life::opened))]
     pub fn primed(request: Request, id: u32, mark: u64, events: u64, now: Instant) -> Self
         ensures { result ≡ priming request id mark events now }
     {
@@ -98,6 +99,7 @@ impl Subscription {
     }
 
     // One that a restart brings back: stored, and never reported since.
+    #[tactic(auto, unfolding(crate::specs::Life::resumed))]
     pub fn resumed(request: Request, id: u32, mark: u64, events: u64) -> Self
         ensures { result ≡ resumed request id mark events }
     {
@@ -116,6 +118,7 @@ impl Subscription {
     }
 
     // When the minimum interval lets a report through.
+    #[tactic(auto, unfolding(crate::specs::When::gate_of))]
     pub fn min_int_gate(self) -> Instant
         ensures { result ≡ gate_of self }
     {
@@ -123,6 +126,7 @@ impl Subscription {
     }
 
     // When a report is allowed: neither the minimum interval nor a retry holds it back.
+    #[tactic(auto, unfolding(crate::specs::When::allowed_of))]
     pub fn report_allowed_at(self) -> Instant
         ensures { result ≡ allowed_of self }
     {
@@ -130,12 +134,14 @@ impl Subscription {
     }
 
     // When a report goes out though there is nothing to tell.
+    #[tactic(auto, unfolding(crate::specs::When::due_of))]
     pub fn report_due_at(self, kind: KeepAlive) -> Instant
         ensures { result ≡ due_of self kind }
     {
         time::report_due_at(self.reported, self.longest, kind)
     }
 
+    #[tactic(auto, unfolding(crate::specs::When::is_due))]
     pub fn is_report_due(self, now: Instant, kind: KeepAlive) -> bool
         ensures { result ≡ is_due self now kind }
     {
@@ -143,6 +149,7 @@ impl Subscription {
     }
 
     // Whether there is something to tell. `changed` says that some entry of the log is above the seen watermark.
+    #[tactic(auto, unfolding(crate::specs::When::pending))]
     pub fn is_pending(self, changed: bool, events: u64) -> bool
         ensures { result ≡ pending self changed events }
     {
@@ -150,6 +157,7 @@ impl Subscription {
     }
 
     // Whether a report goes out now. With `all`, whoever is allowed to and has not reported at this instant goes along.
+    #[tactic(auto, unfolding(crate::specs::When::reportable))]
     pub fn is_reportable(
         self,
         now: Instant,
@@ -167,6 +175,7 @@ impl Subscription {
     }
 
     // The earliest instant at which it could report next.
+    #[tactic(auto, unfolding(crate::specs::When::next_of))]
     pub fn next_report_at(self, changed: bool, events: u64, kind: KeepAlive) -> Instant
         ensures { result ≡ next_of self changed events kind }
     {
@@ -178,6 +187,7 @@ impl Subscription {
         }
     }
 
+    #[tactic(auto, unfolding(crate::specs::When::is_over))]
     pub fn is_expired(self, now: Instant) -> bool
         ensures { result ≡ is_over self now }
     {
@@ -185,6 +195,7 @@ impl Subscription {
     }
 
     // Handed out: its report opens with the present watermark, event number and instant. What it has seen stays until the report has ended.
+    #[tactic(auto, unfolding(crate::specs::Life::opened))]
     pub fn handed_out(self, mark: u64, events: u64, now: Instant) -> Self
         ensures { result ≡ opened self mark events now }
     {
@@ -198,6 +209,7 @@ impl Subscription {
     }
 
     // Whether it is stored again after the outcome: not where the report failed for good or was abandoned, nor where it is given up.
+    #[tactic(auto, unfolding(crate::specs::Life::keeps))]
     pub fn is_kept(self, outcome: u8) -> bool
         ensures { result ≡ keeps self outcome }
     {
@@ -205,6 +217,7 @@ impl Subscription {
     }
 
     // Whether the outcome tells that the subscriber has gone quiet.
+    #[tactic(auto, unfolding(crate::specs::Life::failed))]
     pub fn has_failed(self, outcome: u8) -> bool
         ensures { result ≡ failed self outcome }
     {
@@ -213,6 +226,7 @@ impl Subscription {
 
     // As it is stored after the outcome. Where a report was sent, or found empty, what it opened with has been seen, and not what is there
     // by now: a note made meanwhile is still to be told.
+    #[tactic(auto, unfolding(crate::specs::Life::closed))]
     pub fn close(self, outcome: u8) -> Self
         ensures { result ≡ closed self outcome }
     {
@@ -227,6 +241,7 @@ impl Subscription {
         }
     }
 
+    #[tactic(auto, unfolding(crate::specs::When::along))]
     fn goes_along(self, now: Instant, all: bool) -> bool
         ensures { result ≡ along self now all }
     {
@@ -234,6 +249,7 @@ impl Subscription {
     }
 
     // Stored again, with blank opening values.
+    #[tactic(auto, unfolding(crate::specs::Life::stored_with))]
     fn stored(self, reported: Instant, retry: Instant, fails: u8, seen: u64, heard: u64) -> Self
         ensures { result ≡ stored_with self reported retry fails seen heard }
     {
@@ -252,6 +268,7 @@ impl Subscription {
     }
 
     // A retry of a subscription that has never reported would be a retry for ever: a resumed one whose subscriber is gone.
+    #[tactic(auto, unfolding(crate::specs::Life::gives_up))]
     fn is_given_up(self, outcome: u8) -> bool
         ensures { result ≡ gives_up self outcome }
     {

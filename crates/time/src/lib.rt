@@ -28,6 +28,7 @@ impl KeepAlive {
     }
 
     // How long after its last report a subscription with nothing to report reports anyway.
+    #[tactic(auto, unfolding(crate::specs::Intervals::due_after_secs))]
     pub fn due_after_secs(self, longest: u16) -> u16
         ensures { result ≡ due_after_secs self longest }
     {
@@ -54,6 +55,7 @@ pub fn report_due_at(reported: Instant, longest: u16, kind: KeepAlive) -> Instan
 }
 
 // When a report that failed may be tried again, from the instant at which it was opened.
+#[tactic(auto, unfolding(crate::specs::Moments::retry_at))]
 pub fn retry_at(opened: Instant, fails: u8, longest: u16) -> Instant
     ensures { result ≡ retry_at opened fails longest }
 {
@@ -63,6 +65,7 @@ pub fn retry_at(opened: Instant, fails: u8, longest: u16) -> Instant
 }
 
 // Whether the maximum interval has run out since the last report that reached the subscriber.
+#[tactic(auto, unfolding(crate::specs::Moments::expired))]
 pub fn is_expired(reported: Instant, longest: u16, now: Instant) -> bool
     ensures { result ≡ expired reported longest now }
 {
@@ -85,6 +88,7 @@ pub fn retry_backoff_secs(fails: u8, longest: u16) -> u16
 
 // The maximum interval that an intermittently connected device grants: its idle time, so that it wakes up no more often than it does anyway,
 // but with room after the subscriber's minimum for the report that keeps the subscription alive.
+#[tactic(auto, unfolding(crate::specs::Intervals::icd_max_secs))]
 pub fn icd_max_int_secs(idle: u32, floor: u16) -> u16
     ensures { result ≡ icd_max_secs idle floor }
 {
@@ -97,6 +101,7 @@ const FLOOR_LEAD_SECS: u16 = 10;
 
 // The maximum interval that any other device grants: what the subscriber asks for, within the configured bounds, but with room after the
 // subscriber's minimum for a report.
+#[tactic(auto, unfolding(crate::specs::Intervals::granted_max_secs))]
 pub fn subscription_max_int_secs(request: u16, floor: u16, lower: u16, upper: u16) -> u16
     ensures { result ≡ granted_max_secs request floor lower upper }
 {
@@ -106,6 +111,7 @@ pub fn subscription_max_int_secs(request: u16, floor: u16, lower: u16, upper: u1
 
 // So many seconds after the last report. Where there was none, or no such instant is left, it has come already: a gate that never opened,
 // or a report that never fell due, would leave a subscriber waiting for ever.
+#[tactic(auto, unfolding(crate::specs::Moments::since_report))]
 fn since_report(reported: Instant, secs: u16) -> Instant
     ensures { result ≡ since_report reported secs }
 {

@@ -16,7 +16,7 @@ use Rattle.tracing.specs.declared.Session.{Session}
 use Rattle.tracing.specs.Runs.{Work, worked, run_of, finish_of}
 use Rattle.tracing.proofs.Driving.{run_fits, run_long, run_within, run_moves, finish_fits, finish_long}
 
-module _ (x : Session) (held s out : List ℕ) (r : Ran) (h o : List ℕ) (e : worked r h o ≡ run_of x held s out) where
+module _ (x y : Session) (held s out : List ℕ) (r : Ran) (h o : List ℕ) (e : worked y r h o ≡ run_of x held s out) where
   pub wrote_fits : r.wrote ≤ length out
   wrote_fits = omega (arith, ap (λ (w : Work). w.wrote) e, run_fits x held s out)
 
