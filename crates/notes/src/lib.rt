@@ -17,7 +17,7 @@ use sweeping::sweep;
 
 // The entries are the first `len` of sixteen places.
 #[repr(C)]
-#[derive(Clone, Copy)]
+#[derive(Clone, Copy, PartialEq, Eq, Debug)]
 pub struct Held {
     pub entries: [ChangedAttr; 16],
     pub len: usize,
