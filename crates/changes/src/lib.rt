@@ -13,7 +13,7 @@ use refusal::Refusal;
 // The log: the entries that it holds, and the identity that the next note takes. Its layout is C's, so that a host in another language can
 // lend one.
 #[repr(C)]
-#[derive(Clone, Copy)]
+#[derive(Clone, Copy, PartialEq, Eq, Debug)]
 pub struct ChangedAttrs {
     pub held: Held,
     pub next: u64,

@@ -17,7 +17,7 @@ use sweeping::sweep;
 
 // The entries are the first `len` of sixteen places. The layout is C's, so that a host in another language can lend one.
 #[repr(C)]
-#[derive(Clone, Copy)]
+#[derive(Clone, Copy, PartialEq, Eq, Debug)]
 pub struct Held {
     pub entries: [ChangedAttr; 16],
     pub len: usize,

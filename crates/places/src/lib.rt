@@ -6,7 +6,7 @@
 use changes::ChangedAttrs;
 use subscription::Subscription;
 
-#[derive(Clone, Copy)]
+#[derive(Clone, Copy, PartialEq, Eq, Debug)]
 pub struct Table {
     // The stored ones are the first `stored`, the open ones the last `opens`; a place between them is blank.
     pub places: [Subscription; 80],
