@@ -2,7 +2,7 @@
 //
 // Document 01, "Trace lines": the seven kinds of line are seven calls of the table; each answers a value or a refusal. A refused `new`
 // leaves the table that was there. Every table and every line is taken; how a line is read and an answer printed is not said here.
-#![tactic(auto, unfolding(crate::specs::Answers::renewed_in, crate::specs::Answers::added_in, crate::specs::Answers::noted_in, crate::specs::Answers::reported_in, crate::specs::Answers::done_in, crate::specs::Answers::answer_in))]
+#![tactic(auto)]
 
 ghost use Rattle.std.specs.Prelude.{◌≡◌};
 ghost use Rattle.places.specs.Calls.{tabled};
@@ -17,6 +17,7 @@ use subscription::{Request, Settings};
 use time::KeepAlive;
 
 // The line's call of the table.
+#[tactic(auto, unfolding(crate::specs::Answers::answer_in))]
 pub fn answer(table: &mut Table, line: Line) -> Result<u64, Refusal>
     ensures { tabled result table.new ≡ answer_in table.old line }
 {
@@ -55,6 +56,7 @@ pub fn answer(table: &mut Table, line: Line) -> Result<u64, Refusal>
 }
 
 // A new table in place of the present one; its value is its capacity.
+#[tactic(auto, unfolding(crate::specs::Answers::renewed_in))]
 fn renewed(table: &mut Table, capacity: u8) -> Result<u64, Refusal>
     ensures { tabled result table.new ≡ renewed_in table.old capacity }
 {
@@ -65,6 +67,7 @@ fn renewed(table: &mut Table, capacity: u8) -> Result<u64, Refusal>
 }
 
 // The id.
+#[tactic(auto, unfolding(crate::specs::Answers::added_in))]
 fn added(table: &mut Table, now: u64, request: Request, events: u64) -> Result<u64, Refusal>
     ensures { tabled result table.new ≡ added_in table.old request events now }
 {
@@ -73,6 +76,7 @@ fn added(table: &mut Table, now: u64, request: Request, events: u64) -> Result<u
 }
 
 // The identity.
+#[tactic(auto, unfolding(crate::specs::Answers::noted_in))]
 fn noted(table: &mut Table, endpoint: u16, cluster: u32, attr: u32) -> Result<u64, Refusal>
     ensures { tabled result table.new ≡ noted_in table.old endpoint cluster attr }
 {
@@ -81,6 +85,7 @@ fn noted(table: &mut Table, endpoint: u16, cluster: u32, attr: u32) -> Result<u6
 }
 
 // The id, or 0 for nobody.
+#[tactic(auto, unfolding(crate::specs::Answers::reported_in))]
 fn reported(table: &mut Table, now: u64, events: u64, icd: bool, all: bool) -> Result<u64, Refusal>
     ensures { tabled result table.new ≡ reported_in table.old (settings_of now events icd all) }
 {
@@ -97,6 +102,7 @@ fn reported(table: &mut Table, now: u64, events: u64, icd: bool, all: bool) -> R
 }
 
 // 1 for kept, or 0.
+#[tactic(auto, unfolding(crate::specs::Answers::done_in))]
 fn done(table: &mut Table, id: u32, outcome: u8) -> Result<u64, Refusal>
     ensures { tabled result table.new ≡ done_in table.old id outcome }
 {

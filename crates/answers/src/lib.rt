@@ -1,4 +1,5 @@
-// The answers of the change log. A call answers with a `Result`: the value, or the refusal. Which call gives which answer is crate changes' matter; the table answers with some of them too.
+// The answers of the change log: a `Result` of a value or a refusal, and what document 01 tells of it in numbers. Which call gives which
+// answer is crate changes' matter; the table answers with some of them too.
 #![tactic(auto)]
 
 ghost use Rattle.std.specs.Prelude.{◌≡◌};

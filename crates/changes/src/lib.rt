@@ -1,6 +1,6 @@
 // The change log: document 01, "Change log". Sixteen entries say which paths have changed, each with the identity of its latest change.
 // Every public call refuses a log that isn't well kept and leaves it as it was. Who has seen which change is not known here.
-#![tactic(auto, unfolding(crate::specs::Logs::kept, crate::specs::Logs::well_kept, crate::specs::Logs::holding, crate::specs::Logs::identity_after, crate::specs::Logs::noted, crate::specs::Logs::purged, crate::specs::Logs::cleared, crate::specs::Logs::marked, crate::specs::Logs::newest_mark, crate::specs::Logs::any_told, crate::specs::Logs::path_told))]
+#![tactic(auto)]
 
 ghost use Rattle.std.specs.Prelude.{◌≡◌};
 ghost use Rattle.changes.specs.Logs.{empty_log, kept, well_kept, logged, identity_after, fresh_log, noted, purged, cleared, marked, newest_mark, any_told, path_told};
@@ -27,6 +27,7 @@ impl ChangedAttrs {
     }
 
     // Whether the log is well kept: at most sixteen entries, and a next identity that isn't 0.
+    #[tactic(auto, unfolding(crate::specs::Logs::kept))]
     pub fn is_kept(&self) -> bool
         ensures { result ≡ kept self.now }
     {
@@ -34,6 +35,7 @@ impl ChangedAttrs {
     }
 
     // The latest identity that was given. Whoever has seen it has seen every change.
+    #[tactic(auto, unfolding(crate::specs::Logs::marked, crate::specs::Logs::well_kept, crate::specs::Logs::kept))]
     pub fn watermark(&self) -> Result<u64, Refusal>
         ensures { result ≡ marked self.now }
     {
@@ -42,6 +44,7 @@ impl ChangedAttrs {
     }
 
     // The greatest identity that an entry has, 0 where there is none. Something has changed since an identity exactly where this is above.
+    #[tactic(auto, unfolding(crate::specs::Logs::newest_mark, crate::specs::Logs::well_kept))]
     pub fn newest(&self) -> Result<u64, Refusal>
         ensures { result ≡ newest_mark self.now }
     {
@@ -50,6 +53,7 @@ impl ChangedAttrs {
     }
 
     // A path has changed. The note takes the next identity, and from now on some entry covers the path with it.
+    #[tactic(auto, unfolding(crate::specs::Logs::noted, crate::specs::Logs::holding, crate::specs::Logs::well_kept))]
     pub fn note(&mut self, endpoint: u16, cluster: u32, attr: u32) -> Result<Entered, Refusal>
         ensures { logged result self.new ≡ noted self.old endpoint cluster attr }
     {
@@ -66,6 +70,7 @@ impl ChangedAttrs {
     }
 
     // Whether the path has changed since the identity.
+    #[tactic(auto, unfolding(crate::specs::Logs::path_told, crate::specs::Logs::well_kept))]
     pub fn contains_since(
         &self,
         endpoint: u16,
@@ -87,6 +92,7 @@ impl ChangedAttrs {
     }
 
     // Whether anything has changed since the identity.
+    #[tactic(auto, unfolding(crate::specs::Logs::any_told, crate::specs::Logs::well_kept))]
     pub fn any_since(&self, since: u64) -> Result<bool, Refusal>
         ensures { result ≡ any_told self.now since }
     {
@@ -95,6 +101,7 @@ impl ChangedAttrs {
     }
 
     // Entries up to the identity go: everyone has seen them. With 0 nothing happens.
+    #[tactic(auto, unfolding(crate::specs::Logs::purged, crate::specs::Logs::holding, crate::specs::Logs::well_kept))]
     pub fn purge_up_to(&mut self, threshold: u64) -> Result<(), Refusal>
         ensures { logged result self.new ≡ purged self.old threshold }
     {
@@ -106,6 +113,7 @@ impl ChangedAttrs {
     }
 
     // Every entry goes: there is nobody to tell.
+    #[tactic(auto, unfolding(crate::specs::Logs::cleared, crate::specs::Logs::well_kept))]
     pub fn clear(&mut self) -> Result<(), Refusal>
         ensures { logged result self.new ≡ cleared self.old }
     {
@@ -115,6 +123,7 @@ impl ChangedAttrs {
     }
 
     // Nothing, where the log is well kept.
+    #[tactic(auto, unfolding(crate::specs::Logs::well_kept))]
     fn well_kept(&self) -> Result<(), Refusal>
         ensures { result ≡ well_kept self.now }
     {
@@ -140,6 +149,7 @@ fn empty(next: u64) -> ChangedAttrs
 }
 
 // The identity after another: 0 is skipped, since it says that nothing has been seen.
+#[tactic(auto, unfolding(crate::specs::Logs::identity_after))]
 fn next_identity(identity: u64) -> u64
     ensures { result ≡ identity_after identity }
 {

@@ -7,7 +7,7 @@ ghost use Rattle.choices.specs.Choices.{chosen};
 use instants::Instant;
 use subscription::Subscription;
 
-// Which subscriptions a removal takes.
+// Which subscriptions a removal takes. An enum and no closure: document 01 lists them, and a caller hands one over as an argument.
 #[derive(Clone, Copy, PartialEq, Eq, Debug)]
 pub enum Choice {
     All,

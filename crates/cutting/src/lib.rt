@@ -24,7 +24,7 @@ pub struct Reading {
     pub cr: bool,
 }
 
-// A line that ended: a bad one, or one whose bytes are the first so many that are held.
+// A line that ended: a bad one, or one whose bytes are the first so many that are held. Three cases, and each leads somewhere else.
 #[derive(Clone, Copy, PartialEq, Eq, Debug)]
 pub enum Found {
     Nothing,

@@ -16,7 +16,7 @@ pub struct ChangedAttr {
     pub endpoint: u16,
 }
 
-// Which entries a scan is after.
+// Which entries a scan is after. An enum and no closure: the definitions and `Held`'s public methods name the five.
 #[derive(Clone, Copy, PartialEq, Eq, Debug)]
 pub enum Rule {
     // Those that cover the entry.

@@ -47,6 +47,7 @@ pub enum Line {
         events: u64,
         icd: bool,
     },
+    // Document 01 answers a line of any other shape too.
     Bad,
 }
 

@@ -15,7 +15,7 @@ use entries::{ChangedAttr, Level, Rule};
 use std::marker::Model;
 use sweeping::sweep;
 
-// The entries are the first `len` of sixteen places.
+// The entries are the first `len` of sixteen places. The layout is C's, so that a host in another language can lend one.
 #[repr(C)]
 #[derive(Clone, Copy, PartialEq, Eq, Debug)]
 pub struct Held {
@@ -195,7 +195,7 @@ impl Entries {
     }
 }
 
-// A coarser entry, and how many entries it covers.
+// A coarser entry, and how many entries it covers. One of size 0 or 1 stands for no group: the definitions of a fold compare sizes.
 #[derive(Clone, Copy)]
 pub struct Group {
     pub by: ChangedAttr,

@@ -16,7 +16,7 @@ pub struct Table {
     // The id that the next admission takes.
     pub next: u32,
     pub capacity: u8,
-    // The reason with which the open report was cancelled, 0 for none.
+    // The reason with which the open report was cancelled, 0 for none, as document 01 has it.
     pub cancel: u8,
 }
 

@@ -13,7 +13,7 @@ use time::KeepAlive;
 #[derive(Clone, Copy, PartialEq, Eq, Debug)]
 pub struct Subscription {
     pub peer: u64,
-    // When the last report reached the subscriber; the last instant says never.
+    // When the last report reached the subscriber; the last instant says never, as document 01 has it.
     pub reported: Instant,
     // Before this a report that failed is not tried again.
     pub retry: Instant,
@@ -156,22 +156,15 @@ impl Subscription {
         changed || self.heard < events
     }
 
-    // Whether a report goes out now. With `all`, whoever is allowed to and has not reported at this instant goes along.
+    // Whether a report goes out at the settings. With `all`, whoever is allowed to and has not reported at this instant goes along.
     #[tactic(auto, unfolding(crate::specs::When::reportable))]
-    pub fn is_reportable(
-        self,
-        now: Instant,
-        changed: bool,
-        events: u64,
-        kind: KeepAlive,
-        all: bool,
-    ) -> bool
-        ensures { result ≡ reportable self now changed events kind all }
+    pub fn is_reportable(self, at: Settings, changed: bool) -> bool
+        ensures { result ≡ reportable self at.now changed at.events at.kind at.all }
     {
-        self.report_allowed_at() <= now
-            && (self.goes_along(now, all)
-                || self.is_report_due(now, kind)
-                || self.is_pending(changed, events))
+        self.report_allowed_at() <= at.now
+            && (self.goes_along(at.now, at.all)
+                || self.is_report_due(at.now, at.kind)
+                || self.is_pending(changed, at.events))
     }
 
     // The earliest instant at which it could report next.

@@ -31,7 +31,7 @@ use scans::{
 use subscription::{ABANDONED, Request, Settings, Subscription};
 use time::KeepAlive;
 
-// How many places there are.
+// How many places there are. The memory is fixed: the core has no heap.
 pub(crate) const PLACES: usize = 80;
 
 // The reason with which clearing cancels the open report.
@@ -304,7 +304,7 @@ fn is_bad_reason(reason: u8) -> bool
     reason == 0 || CLEARED <= reason
 }
 
-// The table without the entries that every stored one has seen.
+// The table without the entries that every stored one has seen. A well-kept log refuses neither a purge nor emptying.
 fn purged(table: &mut Table)
     ensures { table.new ≡ purged_table table.old }
 {

@@ -95,7 +95,7 @@ pub(crate) fn one_with_id(xs: &[Subscription], id: u32) -> Option<Subscription>
 pub(crate) fn first_ready(xs: &[Subscription], at: Settings, newest: u64) -> Option<usize>
     ensures { result ≡ position (ready_by at newest) xs.now }
 {
-    xs.iter().position(|x| x.is_reportable(at.now, x.seen < newest, at.events, at.kind, at.all))
+    xs.iter().position(|x| x.is_reportable(at, x.seen < newest))
 }
 
 #[tactic(auto, using(lists::proofs::Library::count_filter), unfolding(places::specs::Tests::of_fabric))]
