@@ -3,9 +3,9 @@
 use mathlib.Core.Path.{◌≡◌, refl, sym, ap, ◌∙◌}
 use mathlib.Core.Bool.{Bool, true, false, cond, ◌||◌}
 use mathlib.Core.List.{List, [], ◌∷◌}
-use Prim.Native.Nat.{ℕ, ◌+◌, min, max, ◌≤◌, ◌<◌}
+use Prim.Native.Nat.{ℕ, ◌+◌, min, max, ◌<◌}
 use native.Mathlib.Omega.{arith}
-use borrow.Author.Tests.{ltb-true, ltb-false, lt-ltb}
+use borrow.Author.Tests.{ltb-true, lt-ltb}
 use lib.Dec.{ltb}
 use lib.ListN.{length}
 use Rattle.std.specs.List.{list_any, fold, count_by, find, position, position_or_len}
@@ -38,18 +38,6 @@ module _ {A : Type 0} (p : A → Bool) where
   unfolding first
   first_len [] = refl
   first_len (x ∷ xs) = split (p x) (λ t. rw (t, first)) (λ t. rw (t, first) (omega (arith, first_len xs)))
-
-  first_most : (xs : List A) → first p xs ≤ length xs
-  unfolding first
-  first_most [] = omega arith
-  first_most (x ∷ xs) = split (p x) (λ t. rw (t, first) (omega arith)) (λ t. rw (t, first) (omega (arith, first_most xs)))
-
-  -- `xs.iter().position(p).unwrap_or(xs.len())`
-  pub first_position : (xs : List A) → first p xs ≡ unwrap_or (position p xs) (length xs)
-  first_position xs =
-      split (ltb (position_or_len p xs) (length xs))
-      (λ t. rw t (first_len xs))
-      (λ t. rw t (omega (arith, first_len xs, first_most xs, ltb-false _ _ t)))
 
   -- where `position` answers, there is one, and its place is the first
   pub found_at : (xs : List A) {i : ℕ} → position p xs ≡ Some i → (some p xs ≡ true) × (i ≡ first p xs) × (first p xs < length xs)

@@ -1,7 +1,7 @@
 -- The questions to a well-kept table are the machine's at the state that the table stands for.
 -- The scans look for, count and compare what the machine does.
 -- Assumes nothing.
-use Rattle.std.specs.Prelude.{Ok, Err}
+use Rattle.std.specs.Prelude.{Err}
 use mathlib.Core.Path.{◌≡◌, refl, sym, ap, ◌∙◌, fun_ext}
 use mathlib.Core.Bool.{true, cond}
 use Prim.Native.Nat.{ℕ, ◌-◌}

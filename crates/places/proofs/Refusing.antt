@@ -3,7 +3,6 @@
 use Rattle.std.specs.Prelude.{Some, None}
 use mathlib.Core.Path.{◌≡◌, sym, ap, ◌∙◌}
 use mathlib.Core.Bool.{true, false, not}
-use mathlib.Core.List.{[]}
 use Prim.Native.Nat.{ℕ, ◌+◌, ◌-◌, ◌≤◌, ◌<◌}
 use native.Mathlib.Omega.{arith}
 use borrow.Author.Tests.{leb-true, leb-false}
@@ -23,7 +22,7 @@ use Rattle.places.specs.Calls.{admit_objections}
 use Rattle.rules.specs.Calls as call
 use Rattle.lists.proofs.Bools.{split, and_both, and_left, and_right}
 use Rattle.lists.proofs.Searches.{some_append}
-use Rattle.rules.proofs.Clauses.{counted_is, add_objects, resume_objects, well_kept_is, first_holds, first_passed, first_none}
+use Rattle.rules.proofs.Clauses.{counted_is, add_objects, resume_objects, well_kept_is, first_holds, first_passed}
 
 module _ (t : Table) where
   module _ (h : kept t ≡ true) where
@@ -60,10 +59,6 @@ module _ (t : Table) where
     pub past_kept : (op : Op) → refusal_at op t ≡ first_of (objections op (view t))
     unfolding refusal_at
     past_kept op = first_passed NotWellKept (objections op (view t)) (ap not h)
-
-    -- and there is none where the machine has no objection
-    pub no_refusal : (op : Op) → objections op (view t) ≡ [] → refusal_at op t ≡ None
-    no_refusal op e = past_kept op ∙ ap first_of e ∙ first_none
 
   -- a table that is not well kept is refused with 7
   pub unkept : kept t ≡ false → (op : Op) → refusal_at op t ≡ Some NotWellKept

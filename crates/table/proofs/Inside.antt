@@ -1,11 +1,10 @@
 -- The well-kept rule in the array's terms: with the counts within the capacity, what is left to test is the log, the ids, the fabrics, the open
 -- reports and the reason.
 -- Assumes nothing.
-use Rattle.std.proofs.Common.{◌≡◌, ◌+◌, ◌-◌, ◌≤◌, Bool, true, false, not, ◌&&◌, ◌||◌, eqb, ltb, leb, ◌++◌, length, ◌∙◌, arith, length-drop, length-take-le, leb-true}
+use Rattle.std.proofs.Common.{◌≡◌, ◌+◌, ◌-◌, ◌≤◌, true, false, ◌&&◌, leb, length, ◌∙◌, arith, length-drop, length-take-le, leb-true}
 use Rattle.places.specs.declared.Table.{Table}
-use Rattle.lists.specs.Search.{some, count, distinct}
 use Rattle.changes.specs.Logs.{kept as log_kept}
-use Rattle.rules.specs.States.{is_report, capacity_fits, fabric_zero}
+use Rattle.rules.specs.States.{is_report, capacity_fits}
 use Rattle.places.specs.Views.{stored_of, opens_of, view, kept}
 use Rattle.table.specs.Scans.{sound}
 use Rattle.lists.proofs.Bools.{split, clash, and_both}

@@ -1,6 +1,6 @@
 -- The ids of the live ones in one array: a turn of copying some of them, and both parts behind one another.
 -- Assumes nothing.
-use Rattle.std.proofs.Common.{◌≡◌, ℕ, suc, ◌+◌, ◌-◌, ◌<◌, ◌≤◌, List, [], ◌∷◌, ◌++◌, map, length, get_or, take, drop, set, ◌∙◌, add-one, append_assoc, arith, length-append, length-drop, length-take-le, drop-cons, take-suc}
+use Rattle.std.proofs.Common.{◌≡◌, ℕ, suc, ◌+◌, ◌<◌, ◌≤◌, List, [], ◌∷◌, ◌++◌, map, length, get_or, take, drop, set, ◌∙◌, add-one, append_assoc, arith, length-take-le, drop-cons, take-suc}
 use mathlib.Core.List.{map-append}
 use lib.Seq.{set_at, take_at}
 use Rattle.std.proofs.lemmas.List.{length-map}
@@ -31,7 +31,3 @@ both_ids stored opens old more post e f =
     let parts = map-append (λ (x : Subscription). x.id) stored opens in
     rw (e, f, take_at (ids_of stored) old (length stored) front, append_assoc, ← append_assoc (ids_of stored) (ids_of opens) (more ++ post), ← parts)
     (take_at (ids_of (stored ++ opens)) (more ++ post) (length (stored ++ opens)) all)
-
-pub live_length : (places : List Subscription) (s o : ℕ) → length places ≡ 80 → s + o ≤ 80 → length (take s places ++ drop (80 - o) places) ≡ s + o
-live_length places s o long fits =
-    omega (arith, length-append (take s places) (drop (80 - o) places), length-take-le s places (omega arith), length-drop (80 - o) places)

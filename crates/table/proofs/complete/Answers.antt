@@ -1,6 +1,6 @@
 -- `complete` meets its contract: the tests are the objections, in their order, and the scan finds the open one.
 -- Assumes nothing.
-use Rattle.std.proofs.Common.{[], ◌+◌, ◌-◌, not, sym, ap, ◌∙◌, arith, rules, le-ltb, lt-ltb, length-drop}
+use Rattle.std.proofs.Common.{[], ◌-◌, not, sym, ap, ◌∙◌, arith, rules, le-ltb, lt-ltb, length-drop}
 use Rattle.refusal.specs.declared.Refusal.TheVariants.{BadArgument, NotOpen}
 use Rattle.places.specs.Calls.{open_at, complete_in}
 use Rattle.places.specs.Views.{view}

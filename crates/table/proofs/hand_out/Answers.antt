@@ -1,6 +1,6 @@
 -- `hand_out` meets its contract by what the scan and `handed` ensure; of a well-kept log the watermark and the greatest identity are answered.
 -- Assumes nothing.
-use Rattle.std.proofs.Common.{◌≡◌, ltb, length, sym, ap, ◌∙◌, arith, rules, lt-ltb, length-take-le}
+use Rattle.std.proofs.Common.{◌≡◌, ltb, length, sym, ap, ◌∙◌, arith, lt-ltb, length-take-le}
 use Rattle.std.specs.Prelude.{is_some}
 use Rattle.places.specs.Calls.{first_ready, hand_out_in}
 use Rattle.places.specs.Tests.{ready_by}

@@ -1,11 +1,11 @@
 -- `has_subscription_for` meets its contract: refused with 7, or whether the scan finds one that is served.
 -- Assumes nothing.
-use Rattle.std.proofs.Common.{◌≡◌, ltb, length, sym, ap, ◌∙◌, arith, rules, length-take-le}
+use Rattle.std.proofs.Common.{sym, ◌∙◌, arith, rules}
 use Rattle.places.specs.Calls.{has_at}
-use Rattle.places.specs.Views.{view, stored_of}
+use Rattle.places.specs.Views.{view}
 use Rattle.rules.specs.Calls as call
 use Rattle.rules.proofs.Clauses.{has_objects}
-use Rattle.table.proofs.Standing.{well, unwell, counts, unrefused}
+use Rattle.table.proofs.Standing.{unwell, counts, unrefused}
 use Rattle.places.specs.Tests.{served}
 use Rattle.places.proofs.Finding.{stored_there}
 use Rattle.std.proofs.Common.{refl}

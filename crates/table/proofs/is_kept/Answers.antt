@@ -1,7 +1,7 @@
 -- `is_kept` meets its contract: the test passes exactly where the table is well kept.
 -- Assumes nothing.
 use Rattle.std.proofs.Common.{◌≡◌, Bool, true, false, cond, Ok, Err, refl, ap, ◌∙◌}
-use Rattle.std.specs.Prelude.{is_ok, Result}
+use Rattle.std.specs.Prelude.{is_ok}
 use Rattle.std.specs.Bool.{⊤}
 use Rattle.refusal.specs.declared.Refusal.{Refusal}
 use Rattle.refusal.specs.declared.Refusal.TheVariants.{NotWellKept}

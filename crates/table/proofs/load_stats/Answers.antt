@@ -1,11 +1,11 @@
 -- `load_stats` meets its contract: refused with 7, or the counts.
 -- Assumes nothing.
-use Rattle.std.proofs.Common.{◌≡◌, ltb, length, sym, ap, ◌∙◌, arith, rules, length-take-le}
+use Rattle.std.proofs.Common.{sym, ◌∙◌, rules}
 use Rattle.places.specs.Calls.{load_of}
-use Rattle.places.specs.Views.{view, stored_of}
+use Rattle.places.specs.Views.{view}
 use Rattle.rules.specs.Calls as call
 use Rattle.rules.proofs.Clauses.{statistics_objects}
-use Rattle.table.proofs.Standing.{well, unwell, counts, unrefused}
+use Rattle.table.proofs.Standing.{unwell, counts, unrefused}
 use Rattle.table.proofs.load_stats.Goals as goal
 
 pub returns-in_err-well_kept : goal.returns-in_err-well_kept

@@ -1,11 +1,11 @@
 -- `next_keep_alive_at` meets its contract: refused with 7, none where nobody is stored, or the least of the scan.
 -- Assumes nothing.
-use Rattle.std.proofs.Common.{◌≡◌, ltb, length, sym, ap, ◌∙◌, arith, rules, length-take-le}
+use Rattle.std.proofs.Common.{sym, ◌∙◌, rules}
 use Rattle.places.specs.Calls.{alive_at}
-use Rattle.places.specs.Views.{view, stored_of}
+use Rattle.places.specs.Views.{view}
 use Rattle.rules.specs.Calls as call
 use Rattle.rules.proofs.Clauses.{alive_objects}
-use Rattle.table.proofs.Standing.{well, unwell, counts, unrefused}
+use Rattle.table.proofs.Standing.{unwell, unrefused}
 use Rattle.std.proofs.Common.{eq-eqb, ne_eqb}
 use Rattle.table.proofs.next_keep_alive_at.Goals as goal
 

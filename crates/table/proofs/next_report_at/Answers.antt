@@ -1,11 +1,11 @@
 -- `next_report_at` meets its contract: refused with 7, or the least of the scan.
 -- Assumes nothing.
-use Rattle.std.proofs.Common.{◌≡◌, ltb, length, sym, ap, ◌∙◌, arith, rules, length-take-le}
+use Rattle.std.proofs.Common.{◌≡◌, sym, ap, ◌∙◌, rules}
 use Rattle.places.specs.Calls.{next_at}
-use Rattle.places.specs.Views.{view, stored_of}
+use Rattle.places.specs.Views.{view}
 use Rattle.rules.specs.Calls as call
 use Rattle.rules.proofs.Clauses.{instant_objects}
-use Rattle.table.proofs.Standing.{well, unwell, counts, unrefused}
+use Rattle.table.proofs.Standing.{well, unwell, unrefused}
 use Rattle.answers.specs.Numbers.{mark_value}
 use Rattle.changes.specs.Logs.{newest_of}
 use Rattle.places.proofs.Refusing.{kept_log}

@@ -1,6 +1,6 @@
 -- `should_report_attr` meets its contract: the tests are the objections, in their order, and the scan finds the open one.
 -- Assumes nothing.
-use Rattle.std.proofs.Common.{Ok, [], ◌-◌, not, sym, ap, ◌∙◌, rules, get_or-drop}
+use Rattle.std.proofs.Common.{[], ◌-◌, not, sym, ap, ◌∙◌, rules, get_or-drop}
 use Rattle.refusal.specs.declared.Refusal.TheVariants.{NotOpen}
 use Rattle.places.specs.Calls.{open_at, attribute_at}
 use Rattle.places.specs.Views.{view, opens_of}

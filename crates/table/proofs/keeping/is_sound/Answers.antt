@@ -1,6 +1,6 @@
 -- `is_sound` meets its contract: the pass over the live ones tells what the rule asks of them.
 -- Assumes nothing.
-use Rattle.std.proofs.Common.{◌≡◌, ℕ, ◌+◌, Bool, true, false, not, List, ◌++◌, map, length, take, refl, sym, ap, ◌∙◌, length-append}
+use Rattle.std.proofs.Common.{◌≡◌, ℕ, ◌+◌, Bool, List, ◌++◌, map, length, take, sym, ap, ◌∙◌, length-append}
 use Rattle.subscription.specs.declared.Subscription.{Subscription}
 use Rattle.lists.specs.Search.{distinct}
 use Rattle.lists.proofs.Maps.{distinct_map}

@@ -1,6 +1,6 @@
 -- `ended` meets its contract: the two ways meet behind the flag, and on each the table is the definition's.
 -- Assumes nothing.
-use Rattle.std.proofs.Common.{◌≡◌, ℕ, Bool, true, false, cond, get_or, Ok, refl, ◌∙◌}
+use Rattle.std.proofs.Common.{◌≡◌, ℕ, Bool, true, false, cond, get_or, Ok, ◌∙◌}
 use Rattle.subscription.specs.declared.Subscription.{Subscription}
 use Rattle.places.specs.declared.Table.{Table}
 use Rattle.subscription.specs.Life.{blank, failed, closed}

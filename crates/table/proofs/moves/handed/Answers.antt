@@ -1,8 +1,7 @@
 -- `handed` meets its contract: the last stored one fills the place, and one more opens.
 -- Assumes nothing.
-use Rattle.std.proofs.Common.{rules}
 use Rattle.places.specs.Calls.{handed_out}
-use Rattle.places.specs.Moves.{taken_out, opened_up}
+use Rattle.places.specs.Moves.{taken_out}
 use Rattle.table.proofs.moves.handed.Goals as goal
 
 pub returns : goal.returns
