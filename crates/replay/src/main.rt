@@ -18,7 +18,7 @@ mod words;
 
 use cutting::{Found, Reading, close, scan, start};
 use places::Table;
-use replies::{Answered, bad};
+use refusal::Refusal;
 use std::io;
 use std::io::{Read, Write};
 
@@ -47,9 +47,9 @@ fn main(rt: HostRuntime) -> io::Result<()> {
     let mut chunk = [0u8; CHUNK];
     let mut held = [0u8; LINE];
     let mut out = [0u8; CHUNK];
-    let new = table::new(CAPACITY);
+    let (_, table) = table::new(CAPACITY);
     let mut state = State {
-        table: new.table,
+        table,
         reading: start(u64::MAX),
         filled: 0,
     };
@@ -109,27 +109,17 @@ fn answered(
     out: &mut [u8],
     found: Found,
 ) -> io::Result<()> {
-    match found {
+    let reply = match found {
         Found::Nothing => return Ok(()),
-        Found::Bad => told(state, bad(state.table), out),
-        Found::Whole(n) => told(state, answer(state.table, &held[..n.min(held.len())]), out),
-    }
+        Found::Bad => Err(Refusal::BadLine),
+        Found::Whole(n) => calls::answer(&mut state.table, &held[..n.min(held.len())]),
+    };
+    let k = replies::put_reply(out, state.filled, state.reading.number, &reply);
+    state.filled = dumps::put_state(out, k, &state.table);
     if state.filled < out.len() / 2 {
         return Ok(());
     }
     flushed(output, state, out)
-}
-
-// The answer to a line.
-fn answer(t: Table, s: &[u8]) -> Answered {
-    calls::answer(t, s).unwrap_or_else(|| bad(t))
-}
-
-// An answer is put behind what is filled.
-fn told(state: &mut State, a: Answered, out: &mut [u8]) {
-    let k = replies::put_reply(out, state.filled, state.reading.number, &a.reply);
-    state.filled = dumps::put_state(out, k, &a.table);
-    state.table = a.table;
 }
 
 // The filled bytes written. A failed write ends the program.

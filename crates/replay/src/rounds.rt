@@ -2,14 +2,14 @@
 ghost use Rattle.std.specs.Prelude.{◌≤◌, length, IfSome};
 
 use super::calls::settings;
-use super::replies::{Answered, Reply, VALUES, acted, refused};
-use super::words::narrow;
+use super::replies::{Reply, VALUES, told};
+use super::words::{narrow, read};
 use answers::flag;
-use fields::{read_field, read_fields};
+use fields::read_field;
 use lines::{BITS8, BITS64, FLAG};
 use places::Table;
-use round::{Ending, Rounding};
-use subscription::Settings;
+use refusal::Refusal;
+use round::Ending;
 
 // Settings and slots.
 const ROUND: [u64; 5] = [BITS64, BITS64, FLAG, FLAG, BITS8];
@@ -23,22 +23,24 @@ const SLOTS: usize = 255;
 // What a place of the slice holds before the round, its number added.
 const UNWRITTEN: u32 = 900_000_000;
 
-// The line `s` at the table `t`; none, if it is a bad line.
-pub(crate) fn answer(t: Table, s: &[u8]) -> Option<Answered> {
+// The answer to the line `s` at the table `t`.
+pub(crate) fn answer(t: &mut Table, s: &[u8]) -> Reply {
     if s.starts_with(b"round,") {
         return round_line(t, s);
     }
     super::logs::answer(t, s)
 }
 
-fn round_line(t: Table, s: &[u8]) -> Option<Answered> {
+fn round_line(t: &mut Table, s: &[u8]) -> Reply {
     let (front, behind) = s.split_at(head(s));
-    let v = read_fields(front, 6, &ROUND)?;
+    let v = read(front, 6, &ROUND)?;
     let mut outcomes = [0u8; OUTCOMES];
-    let count = read_outcomes(behind, &mut outcomes)?;
+    let count = read_outcomes(behind, &mut outcomes).ok_or(Refusal::BadLine)?;
     let mut ids = unwritten();
     let slots = usize::from(narrow::<u8>(v[4]));
-    Some(made_with(t, settings(v), &outcomes[..count], &mut ids[..slots]))
+    let lent = &mut ids[..slots];
+    let ending = round::round(t, settings(v), &outcomes[..count], lent)?;
+    made(ending, lent)
 }
 
 // Where the sixth comma stands, behind the word, the settings and the slots; the line's end, where there is none.
@@ -67,20 +69,6 @@ fn read_outcomes(s: &[u8], into: &mut [u8]) -> Option<usize>
     None
 }
 
-fn made_with(t: Table, at: Settings, outcomes: &[u8], ids: &mut [u32]) -> Answered {
-    let r = round::round(t, at, outcomes, ids);
-    match r.answer {
-        Rounding::Made(x) => Answered {
-            reply: made(x, ids),
-            table: r.table,
-        },
-        Rounding::Refused(why) => Answered {
-            reply: refused(why),
-            table: r.table,
-        },
-    }
-}
-
 // The slice of ids before the round.
 fn unwritten() -> [u32; SLOTS] {
     let mut ids = [0u32; SLOTS];
@@ -98,5 +86,5 @@ fn made(x: Ending, ids: &[u32]) -> Reply {
     for (value, id) in values[2..].iter_mut().zip(ids) {
         *value = u64::from(*id);
     }
-    acted(values, ids.len().min(SLOTS) + 2)
+    told(&values[..ids.len().min(SLOTS) + 2])
 }

@@ -1,9 +1,9 @@
 // The line of one subscription that stands in no table: what is decided about it alone, against the present log.
-use super::replies::{Reply, VALUES, acted};
-use super::words::narrow;
-use answers::flag;
+use super::replies::{Reply, told};
+use super::words::{narrow, read};
+use answers::{flag, is_yes};
 use changes::ChangedAttrs;
-use fields::{PLACES, read_fields};
+use fields::PLACES;
 use instants::Instant;
 use lines::{BITS8, BITS16, BITS64, FLAG};
 use subscription::{Settings, Subscription};
@@ -14,15 +14,15 @@ const SINGLE: [u64; 11] = [
     BITS16, BITS16, BITS64, BITS64, BITS8, BITS64, BITS64, BITS64, BITS64, FLAG, FLAG,
 ];
 
-// The line `s` with the log; none, if it is a bad line.
-pub(crate) fn reply(log: ChangedAttrs, s: &[u8]) -> Option<Reply> {
+// The answer to the line `s` with the log.
+pub(crate) fn answer(log: &ChangedAttrs, s: &[u8]) -> Reply {
     if s.starts_with(b"single,") {
-        return Some(single(log, read_fields(s, 7, &SINGLE)?));
+        return single(log, read(s, 7, &SINGLE)?);
     }
-    super::times::reply(s)
+    super::times::answer(s)
 }
 
-fn single(log: ChangedAttrs, v: [u64; PLACES]) -> Reply {
+fn single(log: &ChangedAttrs, v: [u64; PLACES]) -> Reply {
     let x = subscription(v);
     let at = Settings {
         now: Instant::at(v[7]),
@@ -30,19 +30,19 @@ fn single(log: ChangedAttrs, v: [u64; PLACES]) -> Reply {
         kind: KeepAlive::of(v[9] == FLAG),
         all: v[10] == FLAG,
     };
-    decided(x, at, log.any_since(v[5]).is_yes())
+    decided(x, at, is_yes(log.any_since(v[5])))
 }
 
 // Allowed, due, change pending, event pending, reportable, next instant.
 fn decided(x: Subscription, at: Settings, changed: bool) -> Reply {
-    let mut values = [0u64; VALUES];
-    values[0] = x.report_allowed_at().ms;
-    values[1] = x.report_due_at(at.kind).ms;
-    values[2] = flag(x.is_pending(changed, 0));
-    values[3] = flag(x.is_pending(false, at.events));
-    values[4] = flag(x.is_reportable(at.now, changed, at.events, at.kind, at.all));
-    values[5] = x.next_report_at(changed, at.events, at.kind).ms;
-    acted(values, 6)
+    told(&[
+        x.report_allowed_at().ms,
+        x.report_due_at(at.kind).ms,
+        flag(x.is_pending(changed, 0)),
+        flag(x.is_pending(false, at.events)),
+        flag(x.is_reportable(at.now, changed, at.events, at.kind, at.all)),
+        x.next_report_at(changed, at.events, at.kind).ms,
+    ])
 }
 
 // With no name and no peer, since no decision asks for them.

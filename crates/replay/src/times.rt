@@ -1,10 +1,11 @@
 // The lines of instants and intervals, which take no state. A line that none of the files before knew either is bad.
-use super::replies::{Reply, one};
-use super::words::narrow;
+use super::replies::{Reply, told};
+use super::words::{narrow, read};
 use answers::flag;
-use fields::{PLACES, read_fields};
+use fields::PLACES;
 use instants::Instant;
 use lines::{BITS8, BITS16, BITS32, BITS64, FLAG};
+use refusal::Refusal;
 use time::KeepAlive;
 
 const BACKOFF: [u64; 2] = [BITS8, BITS16];
@@ -17,47 +18,52 @@ const SUB_MAX: [u64; 4] = [BITS16, BITS16, BITS16, BITS16];
 
 const EXPIRED: [u64; 3] = [BITS64, BITS16, BITS64];
 
-// The line `s`; none, if it is a bad line.
-pub(crate) fn reply(s: &[u8]) -> Option<Reply> {
+// The answer to the line `s`.
+pub(crate) fn answer(s: &[u8]) -> Reply {
     if s.starts_with(b"backoff,") {
-        return Some(backoff(read_fields(s, 8, &BACKOFF)?));
+        return backoff(read(s, 8, &BACKOFF)?);
     }
     if s.starts_with(b"dueafter,") {
-        return Some(due_after(read_fields(s, 9, &DUE_AFTER)?));
+        return due_after(read(s, 9, &DUE_AFTER)?);
     }
     if s.starts_with(b"icdmax,") {
-        return Some(icd_max(read_fields(s, 7, &ICD_MAX)?));
+        return icd_max(read(s, 7, &ICD_MAX)?);
     }
     if s.starts_with(b"submax,") {
-        return Some(sub_max(read_fields(s, 7, &SUB_MAX)?));
+        return sub_max(read(s, 7, &SUB_MAX)?);
     }
     if s.starts_with(b"expired,") {
-        return Some(expired(read_fields(s, 8, &EXPIRED)?));
+        return expired(read(s, 8, &EXPIRED)?);
     }
-    None
+    Err(Refusal::BadLine)
 }
 
 fn backoff(v: [u64; PLACES]) -> Reply {
-    one(u64::from(time::retry_backoff_secs(narrow(v[0]), narrow(v[1]))))
+    let secs = time::retry_backoff_secs(narrow(v[0]), narrow(v[1]));
+    told(&[u64::from(secs)])
 }
 
 fn due_after(v: [u64; PLACES]) -> Reply {
-    one(u64::from(KeepAlive::of(v[1] == FLAG).due_after_secs(narrow(v[0]))))
+    let secs = KeepAlive::of(v[1] == FLAG).due_after_secs(narrow(v[0]));
+    told(&[u64::from(secs)])
 }
 
 fn icd_max(v: [u64; PLACES]) -> Reply {
-    one(u64::from(time::icd_max_int_secs(narrow(v[0]), narrow(v[1]))))
+    let secs = time::icd_max_int_secs(narrow(v[0]), narrow(v[1]));
+    told(&[u64::from(secs)])
 }
 
 fn sub_max(v: [u64; PLACES]) -> Reply {
-    one(u64::from(time::subscription_max_int_secs(
+    let secs = time::subscription_max_int_secs(
         narrow(v[0]),
         narrow(v[1]),
         narrow(v[2]),
         narrow(v[3]),
-    )))
+    );
+    told(&[u64::from(secs)])
 }
 
 fn expired(v: [u64; PLACES]) -> Reply {
-    one(flag(time::is_expired(Instant::at(v[0]), narrow(v[1]), Instant::at(v[2]))))
+    let yes = time::is_expired(Instant::at(v[0]), narrow(v[1]), Instant::at(v[2]));
+    told(&[flag(yes)])
 }

@@ -5,18 +5,15 @@
 
 ghost use Rattle.std.specs.Prelude.{◌≡◌, true, ◌<◌};
 
-use answers::{Change, Told, flag};
+use answers::flag;
 use changes::ChangedAttrs;
 use choices::Choice;
 use entries::ChangedAttr;
 use instants::Instant;
 use notes::Held;
-use places::{
-    Admission, Admitted, Alive, Completed, Completion, HandOut, Hearing, Loaded, Moment, Reported,
-    Settled, Table, TableNoted, Waking, Woken,
-};
+use places::{Ended, Handed, Heard, Load, Table};
 use refusal::Refusal;
-use round::Rounding;
+use round::Ending;
 use std::io;
 use subscription::{Request, SENT, Settings, Subscription};
 use time::KeepAlive;
@@ -37,23 +34,47 @@ fn main(rt: HostRuntime) -> io::Result<()> {
 // Each clause broken alone. In `busy` the ids 3 and 2 are stored in the places 0 and 1, and the priming 4 and the report 1 are open in the
 // places 78 and 79.
 fn unkept(rt: &impl Print) -> io::Result<()> {
-    let busy = priming(reporting(three(clean())));
-    calls(rt, b"nothing broken", busy, 1)?;
-    calls(rt, b"capacity 0", table::new(0).table, 1)?;
-    calls(rt, b"capacity 81", with_capacity(clean(), 81), 1)?;
-    calls(rt, b"over capacity", with_capacity(busy, 3), 1)?;
-    calls(rt, b"17 entries", with_log(busy, 17, 2), 1)?;
-    calls(rt, b"identity 0", with_log(busy, 1, 0), 1)?;
-    calls(rt, b"an id stored twice", with_id(busy, 1, 3), 1)?;
-    calls(rt, b"an id open twice", with_id(busy, 78, 1), 1)?;
-    calls(rt, b"an id stored and open", with_id(busy, 78, 3), 1)?;
-    calls(rt, b"fabric 0 stored", without_fabric(busy, 1), 1)?;
-    calls(rt, b"fabric 0 open", without_fabric(busy, 78), 1)?;
-    calls(rt, b"two reports", with_report(busy, 78), 1)?;
-    calls(
+    let busy = three(clean()).and_then(reporting).and_then(priming);
+    let waiting = three(clean()).and_then(priming);
+    tried(rt, b"nothing broken", busy, 1)?;
+    tried(rt, b"capacity 0", Ok(table::new(0).1), 1)?;
+    tried(
+        rt,
+        b"capacity 81",
+        Ok(Table {
+            capacity: 81,
+            ..clean()
+        }),
+        1,
+    )?;
+    tried(
+        rt,
+        b"over capacity",
+        busy.map(|t| Table { capacity: 3, ..t }),
+        1,
+    )?;
+    tried(rt, b"17 entries", busy.map(|t| with_log(t, 17, 2)), 1)?;
+    tried(rt, b"identity 0", busy.map(|t| with_log(t, 1, 0)), 1)?;
+    tried(rt, b"an id stored twice", busy.map(|t| with_id(t, 1, 3)), 1)?;
+    tried(rt, b"an id open twice", busy.map(|t| with_id(t, 78, 1)), 1)?;
+    tried(
+        rt,
+        b"an id stored and open",
+        busy.map(|t| with_id(t, 78, 3)),
+        1,
+    )?;
+    tried(
+        rt,
+        b"fabric 0 stored",
+        busy.map(|t| without_fabric(t, 1)),
+        1,
+    )?;
+    tried(rt, b"fabric 0 open", busy.map(|t| without_fabric(t, 78)), 1)?;
+    tried(rt, b"two reports", busy.map(|t| with_report(t, 78)), 1)?;
+    tried(
         rt,
         b"a reason without a report",
-        with_cancel(priming(three(clean())), 9),
+        waiting.map(|t| Table { cancel: 9, ..t }),
         4,
     )
 }
@@ -64,12 +85,17 @@ fn kept(rt: &impl Print) -> io::Result<()> {
     let neat = three(clean());
     let orphans = three(strewn(0));
     let others = three(strewn(1));
-    calls(rt, b"nothing open", neat, 1)?;
-    calls(rt, b"nothing open, rubbish", orphans, 1)?;
-    calls(rt, b"a report open", reporting(neat), 1)?;
-    calls(rt, b"a report open, rubbish", reporting(orphans), 1)?;
-    calls(rt, b"a priming open", priming(neat), 4)?;
-    calls(rt, b"a priming open, rubbish", priming(others), 4)
+    tried(rt, b"nothing open", neat, 1)?;
+    tried(rt, b"nothing open, rubbish", orphans, 1)?;
+    tried(rt, b"a report open", neat.and_then(reporting), 1)?;
+    tried(
+        rt,
+        b"a report open, rubbish",
+        orphans.and_then(reporting),
+        1,
+    )?;
+    tried(rt, b"a priming open", neat.and_then(priming), 4)?;
+    tried(rt, b"a priming open, rubbish", others.and_then(priming), 4)
 }
 
 // A table that has been told of one change: attribute 0 in cluster 6 of endpoint 3.
@@ -83,19 +109,10 @@ fn strewn(fabric: u8) -> Table {
     let x = Subscription {
         peer: 8,
         reported: Instant::FIRST,
-        retry: Instant::FIRST,
-        seen: 0,
-        heard: 0,
-        mark: 0,
-        events: 0,
-        opened: Instant::FIRST,
         id: 2,
-        shortest: 0,
-        longest: 0,
-        rx: 0,
-        fabric: fabric,
-        fails: 0,
+        fabric,
         reporting: true,
+        ..Subscription::BLANK
     };
     start(x, entry(9))
 }
@@ -106,10 +123,7 @@ fn start(place: Subscription, rest: ChangedAttr) -> Table {
     Table {
         places: [place; 80],
         log: ChangedAttrs {
-            held: Held {
-                entries: entries,
-                len: 1,
-            },
+            held: Held { entries, len: 1 },
             next: 2,
         },
         stored: 0,
@@ -122,7 +136,7 @@ fn start(place: Subscription, rest: ChangedAttr) -> Table {
 
 fn entry(identity: u64) -> ChangedAttr {
     ChangedAttr {
-        identity: identity,
+        identity,
         cluster: 6,
         attr: 0,
         endpoint: 3,
@@ -130,23 +144,24 @@ fn entry(identity: u64) -> ChangedAttr {
 }
 
 // Three are admitted and primed at instant 1000: 1, 2 and 3 are stored.
-fn three(t: Table) -> Table {
-    primed(primed(primed(t, 1), 2), 3)
-}
-
-fn primed(t: Table, id: u32) -> Table {
-    let open = table::add(t, REQUEST, 0, Instant::at(1000)).table;
-    table::complete(open, id, SENT).table
+fn three(mut t: Table) -> Result<Table, Refusal> {
+    for _ in 0..3u8 {
+        let id = table::add(&mut t, REQUEST, 0, Instant::at(1000))?;
+        table::complete(&mut t, id, SENT)?;
+    }
+    Ok(t)
 }
 
 // The first one is handed out, when it is due.
-fn reporting(t: Table) -> Table {
-    table::report(t, due()).table
+fn reporting(mut t: Table) -> Result<Table, Refusal> {
+    table::report(&mut t, due())?;
+    Ok(t)
 }
 
 // One more is admitted.
-fn priming(t: Table) -> Table {
-    table::add(t, REQUEST, 0, Instant::at(31000)).table
+fn priming(mut t: Table) -> Result<Table, Refusal> {
+    table::add(&mut t, REQUEST, 0, Instant::at(31000))?;
+    Ok(t)
 }
 
 // Thirty seconds after the last report, when the next one is due.
@@ -159,17 +174,12 @@ fn due() -> Settings {
     }
 }
 
-fn with_capacity(mut t: Table, capacity: u8) -> Table {
-    t.capacity = capacity;
-    t
-}
-
-fn with_log(mut t: Table, len: usize, next: u64) -> Table {
-    let mut log = t.log;
-    log.held.len = len;
-    log.next = next;
-    t.log = log;
-    t
+fn with_log(t: Table, len: usize, next: u64) -> Table {
+    let held = Held { len, ..t.log.held };
+    Table {
+        log: ChangedAttrs { held, next },
+        ..t
+    }
 }
 
 fn with_id(mut t: Table, i: usize, id: u32) -> Table
@@ -193,207 +203,232 @@ fn with_report(mut t: Table, i: usize) -> Table
     t
 }
 
-fn with_cancel(mut t: Table, reason: u8) -> Table {
-    t.cancel = reason;
-    t
+// Everything that is asked of the state, if it could be made; `id` is whom completion and the questions to an open one ask for.
+fn tried(rt: &impl Print, state: &[u8], made: Result<Table, Refusal>, id: u32) -> io::Result<()> {
+    match made {
+        Ok(t) => {
+            calls(rt, state, &t, id)?;
+            questions(rt, state, &t, id)
+        }
+        Err(why) => question(rt, state, b"not made", Err::<(), Refusal>(why)),
+    }
 }
 
-// Every call that takes a table; `id` is whom completion and the questions to an open one ask for.
-fn calls(rt: &impl Print, state: &[u8], t: Table, id: u32) -> io::Result<()> {
-    line(rt, state, b"add")?;
-    admitted(rt, t, table::add(t, REQUEST, 0, Instant::at(31000)))?;
-    line(rt, state, b"resume")?;
-    admitted(rt, t, table::resume(t, 9, REQUEST, 0))?;
-    line(rt, state, b"note")?;
-    noted(rt, t, table::note(t, 3, 6, 1))?;
-    line(rt, state, b"report")?;
-    reported(rt, t, table::report(t, due()))?;
-    line(rt, state, b"complete")?;
-    completed(rt, t, table::complete(t, id, SENT))?;
-    line(rt, state, b"remove")?;
-    woken(rt, t, table::remove(t, Choice::All, 9))?;
-    line(rt, state, b"clear")?;
-    woken(rt, t, table::clear(t))?;
-    line(rt, state, b"purge")?;
-    settled(rt, t, table::purge_reported_changes(t))?;
-    line(rt, state, b"round")?;
-    rounded(rt, t)?;
-    questions(rt, state, t, id)
-}
-
-fn questions(rt: &impl Print, state: &[u8], t: Table, id: u32) -> io::Result<()> {
-    line(rt, state, b"attribute")?;
-    told(rt, table::should_report_attr(t, id, 3, 6, 0))?;
-    line(rt, state, b"send if empty")?;
-    told(rt, table::should_send_if_empty(t, id, KeepAlive::Default))?;
-    line(rt, state, b"next instant")?;
-    moment(rt, table::next_report_at(t, 0, KeepAlive::Default))?;
-    line(rt, state, b"any reportable")?;
-    told(
+// Every call that changes a table.
+fn calls(rt: &impl Print, state: &[u8], t: &Table, id: u32) -> io::Result<()> {
+    call(rt, state, b"add", t, |t| {
+        table::add(t, REQUEST, 0, Instant::at(31000))
+    })?;
+    call(rt, state, b"resume", t, |t| table::resume(t, 9, REQUEST, 0))?;
+    call(rt, state, b"note", t, |t| table::note(t, 3, 6, 1))?;
+    call(rt, state, b"report", t, |t| table::report(t, due()))?;
+    call(rt, state, b"complete", t, |t| table::complete(t, id, SENT))?;
+    call(
         rt,
-        table::any_reportable(t, Instant::at(2000), 0, KeepAlive::Default),
+        state,
+        b"remove",
+        t,
+        |t| table::remove(t, Choice::All, 9),
     )?;
-    line(rt, state, b"next keep-alive")?;
-    alive(rt, table::next_keep_alive_at(t))?;
-    line(rt, state, b"statistics")?;
-    loaded(rt, table::load_stats(t, 1))?;
-    line(rt, state, b"has subscription")?;
-    told(rt, table::has_subscription_for(t, 1, 8))?;
-    line(rt, state, b"well kept")?;
-    told(rt, Told::Is(table::is_kept(t)))
+    call(rt, state, b"clear", t, |t| table::clear(t))?;
+    call(rt, state, b"purge", t, |t| table::purge_reported_changes(t))?;
+    rounded(rt, state, t)
 }
 
-// The id that was given.
-fn admitted(rt: &impl Print, given: Table, r: Admitted) -> io::Result<()> {
-    let answer = r.answer;
-    match answer {
-        Admission::Id(id) => acted(rt, id as u64)?,
-        Admission::Refused(why) => refused(rt, why)?,
-    }
-    back(rt, given, r.table)
+// Every question.
+fn questions(rt: &impl Print, state: &[u8], t: &Table, id: u32) -> io::Result<()> {
+    let kind = KeepAlive::Default;
+    question(
+        rt,
+        state,
+        b"attribute",
+        table::should_report_attr(t, id, 3, 6, 0),
+    )?;
+    question(
+        rt,
+        state,
+        b"send if empty",
+        table::should_send_if_empty(t, id, kind),
+    )?;
+    question(
+        rt,
+        state,
+        b"next instant",
+        table::next_report_at(t, 0, kind),
+    )?;
+    question(
+        rt,
+        state,
+        b"any reportable",
+        table::any_reportable(t, Instant::at(2000), 0, kind),
+    )?;
+    question(rt, state, b"next keep-alive", table::next_keep_alive_at(t))?;
+    question(rt, state, b"statistics", table::load_stats(t, 1))?;
+    question(
+        rt,
+        state,
+        b"has subscription",
+        table::has_subscription_for(t, 1, 8),
+    )?;
+    question(rt, state, b"well kept", Ok(table::is_kept(t)))
 }
 
-// The identity, and whether it wakes.
-fn noted(rt: &impl Print, given: Table, r: TableNoted) -> io::Result<()> {
-    let answer = r.answer;
-    match answer {
-        Hearing::Entered(x) => {
-            acted(rt, x.identity)?;
-            number(rt, flag(x.wakes))?;
-        }
-        Hearing::Refused(why) => refused(rt, why)?,
-    }
-    back(rt, given, r.table)
+// What a call answers, and whether it leaves the table as it was.
+fn call<T: Tell, F: FnOnce(&mut Table) -> Result<T, Refusal>>(
+    rt: &impl Print,
+    state: &[u8],
+    name: &[u8],
+    given: &Table,
+    act: F,
+) -> io::Result<()>
+    requires { F.IsAlwaysCallable act }
+{
+    let mut t = *given;
+    answer(rt, state, name, act(&mut t))?;
+    back(rt, given, &t)
 }
 
-// The id and the request number, or nothing.
-fn reported(rt: &impl Print, given: Table, r: Reported) -> io::Result<()> {
-    let answer = r.answer;
-    match answer {
-        HandOut::To(x) => {
-            acted(rt, x.id as u64)?;
-            number(rt, x.rx as u64)?;
-        }
-        HandOut::Nothing => word(rt, b" 0 nothing")?,
-        HandOut::Refused(why) => refused(rt, why)?,
-    }
-    back(rt, given, r.table)
-}
-
-// Whether it is kept, and whether its subscriber has gone quiet.
-fn completed(rt: &impl Print, given: Table, r: Completed) -> io::Result<()> {
-    let answer = r.answer;
-    match answer {
-        Completion::Ended(x) => {
-            acted(rt, flag(x.kept))?;
-            number(rt, flag(x.failed))?;
-        }
-        Completion::Refused(why) => refused(rt, why)?,
-    }
-    back(rt, given, r.table)
-}
-
-// Whether it wakes.
-fn woken(rt: &impl Print, given: Table, r: Woken) -> io::Result<()> {
-    let answer = r.answer;
-    match answer {
-        Waking::Wakes(wakes) => acted(rt, flag(wakes))?,
-        Waking::Refused(why) => refused(rt, why)?,
-    }
-    back(rt, given, r.table)
-}
-
-fn settled(rt: &impl Print, given: Table, r: Settled) -> io::Result<()> {
-    let answer = r.answer;
-    match answer {
-        Change::Done => word(rt, b" 0")?,
-        Change::Refused(why) => refused(rt, why)?,
-    }
-    back(rt, given, r.table)
-}
-
-// How many a round of two outcomes handed out, and whether nothing is reportable then; behind the colon the ids, which were 77.
-fn rounded(rt: &impl Print, given: Table) -> io::Result<()> {
-    let outcomes = [SENT; 2];
-    let mut ids = [77u32; 2];
-    let r = round::round(given, due(), &outcomes, &mut ids);
-    let answer = r.answer;
-    match answer {
-        Rounding::Made(x) => {
-            acted(rt, x.handouts as u64)?;
-            number(rt, flag(x.silent))?;
-        }
-        Rounding::Refused(why) => refused(rt, why)?,
-    }
+// A round of two outcomes; behind the colon the ids, which were 77.
+fn rounded(rt: &impl Print, state: &[u8], given: &Table) -> io::Result<()> {
+    let mut t = *given;
+    let mut ids = [77; 2];
+    let made = round::round(&mut t, due(), &[SENT; 2], &mut ids);
+    answer(rt, state, b"round", made)?;
     word(rt, b" :")?;
-    number(rt, wide(ids[0]))?;
-    number(rt, wide(ids[1]))?;
-    back(rt, given, r.table)
+    number(rt, ids[0].into())?;
+    number(rt, ids[1].into())?;
+    back(rt, given, &t)
 }
 
-fn told(rt: &impl Print, answer: Told) -> io::Result<()> {
-    match answer {
-        Told::Is(yes) => acted(rt, flag(yes))?,
-        Told::Refused(why) => refused(rt, why)?,
-    }
+fn question<T: Tell>(
+    rt: &impl Print,
+    state: &[u8],
+    name: &[u8],
+    told: Result<T, Refusal>,
+) -> io::Result<()> {
+    answer(rt, state, name, told)?;
     word(rt, b"\n")
 }
 
-fn moment(rt: &impl Print, answer: Moment) -> io::Result<()> {
-    match answer {
-        Moment::At(x) => acted(rt, x.ms)?,
-        Moment::Refused(why) => refused(rt, why)?,
-    }
-    word(rt, b"\n")
-}
-
-fn alive(rt: &impl Print, answer: Alive) -> io::Result<()> {
-    match answer {
-        Alive::At(x) => acted(rt, x.ms)?,
-        Alive::Never => word(rt, b" 0 never")?,
-        Alive::Refused(why) => refused(rt, why)?,
-    }
-    word(rt, b"\n")
-}
-
-// Counted places, the stored of the fabric, and the ids given so far.
-fn loaded(rt: &impl Print, answer: Loaded) -> io::Result<()> {
-    match answer {
-        Loaded::Is(x) => {
-            acted(rt, x.places as u64)?;
-            number(rt, x.fabric as u64)?;
-            number(rt, x.established as u64)?;
-        }
-        Loaded::Refused(why) => refused(rt, why)?,
-    }
-    word(rt, b"\n")
-}
-
-fn line(rt: &impl Print, state: &[u8], call: &[u8]) -> io::Result<()> {
+// The state and the call; then the code, and what is told where it acted.
+fn answer<T: Tell>(
+    rt: &impl Print,
+    state: &[u8],
+    name: &[u8],
+    told: Result<T, Refusal>,
+) -> io::Result<()> {
     word(rt, state)?;
     word(rt, b": ")?;
-    word(rt, call)
+    word(rt, name)?;
+    match told {
+        Ok(x) => {
+            number(rt, 0)?;
+            x.tell(rt)
+        }
+        Err(why) => number(rt, why.number().into()),
+    }
 }
 
-fn acted(rt: &impl Print, value: u64) -> io::Result<()> {
-    word(rt, b" 0")?;
-    number(rt, value)
-}
-
-fn refused(rt: &impl Print, why: Refusal) -> io::Result<()> {
-    number(rt, why.number() as u64)
-}
-
-fn back(rt: &impl Print, given: Table, table: Table) -> io::Result<()> {
-    if same(given, table) {
+fn back(rt: &impl Print, given: &Table, t: &Table) -> io::Result<()> {
+    if same(given, t) {
         word(rt, b" same\n")
     } else {
         word(rt, b" changed\n")
     }
 }
 
-fn wide(id: u32) -> u64 {
-    id as u64
+// Whether two tables are equal, every place and every field of them. The contract says that a yes can be trusted; that it is ever given is
+// seen in the run.
+fn same(a: &Table, b: &Table) -> bool
+    ensures { result ≡ true → a.now ≡ b.now }
+{
+    a == b
+}
+
+// What a call tells where it acts, each value behind a space.
+trait Tell: Copy {
+    fn tell(self, rt: &impl Print) -> io::Result<()>;
+}
+
+impl Tell for () {
+    fn tell(self, _: &impl Print) -> io::Result<()> {
+        Ok(())
+    }
+}
+
+// Whether it is so.
+impl Tell for bool {
+    fn tell(self, rt: &impl Print) -> io::Result<()> {
+        number(rt, flag(self))
+    }
+}
+
+// An id.
+impl Tell for u32 {
+    fn tell(self, rt: &impl Print) -> io::Result<()> {
+        number(rt, self.into())
+    }
+}
+
+impl Tell for Instant {
+    fn tell(self, rt: &impl Print) -> io::Result<()> {
+        number(rt, self.ms)
+    }
+}
+
+impl Tell for Option<Instant> {
+    fn tell(self, rt: &impl Print) -> io::Result<()> {
+        match self {
+            Some(at) => at.tell(rt),
+            None => word(rt, b" never"),
+        }
+    }
+}
+
+// The identity, and whether it wakes.
+impl Tell for Heard {
+    fn tell(self, rt: &impl Print) -> io::Result<()> {
+        number(rt, self.identity)?;
+        self.wakes.tell(rt)
+    }
+}
+
+// The id and the request number, or nothing.
+impl Tell for Option<Handed> {
+    fn tell(self, rt: &impl Print) -> io::Result<()> {
+        match self {
+            Some(Handed { id, rx }) => {
+                number(rt, id.into())?;
+                number(rt, rx.into())
+            }
+            None => word(rt, b" nothing"),
+        }
+    }
+}
+
+// Whether it is kept, and whether its subscriber has gone quiet.
+impl Tell for Ended {
+    fn tell(self, rt: &impl Print) -> io::Result<()> {
+        self.kept.tell(rt)?;
+        self.failed.tell(rt)
+    }
+}
+
+// Counted places, the stored of the fabric, and the ids given so far.
+impl Tell for Load {
+    fn tell(self, rt: &impl Print) -> io::Result<()> {
+        number(rt, self.places as u64)?;
+        number(rt, self.fabric as u64)?;
+        number(rt, self.established.into())
+    }
+}
+
+// How many were handed out, and whether nothing is reportable then.
+impl Tell for Ending {
+    fn tell(self, rt: &impl Print) -> io::Result<()> {
+        number(rt, self.handouts as u64)?;
+        self.silent.tell(rt)
+    }
 }
 
 fn number(rt: &impl Print, n: u64) -> io::Result<()> {
@@ -402,110 +437,4 @@ fn number(rt: &impl Print, n: u64) -> io::Result<()> {
 
 fn word(rt: &impl Print, text: &[u8]) -> io::Result<()> {
     rt.write_all(text)
-}
-
-// Whether two tables are equal, every place and every field of them. The contract says that a yes can be trusted; that it is ever given is
-// seen in the run.
-fn same(a: Table, b: Table) -> bool
-    ensures { result ≡ true → a ≡ b }
-{
-    let x = a.log;
-    let y = b.log;
-    let held = all(
-        same_places(a, b),
-        same_entries(x.held, y.held),
-        x.held.len == y.held.len,
-        x.next == y.next,
-    );
-    let counts = all(
-        held,
-        a.stored == b.stored,
-        a.opens == b.opens,
-        a.next == b.next,
-    );
-    all(counts, a.capacity == b.capacity, a.cancel == b.cancel, true)
-}
-
-fn same_places(a: Table, b: Table) -> bool
-    ensures { result ≡ true → a.places ≡ b.places }
-{
-    let mut i: usize = 0;
-    while i < 80 {
-        let x = a.places[i];
-        let y = b.places[i];
-        if !same_subscription(x, y) {
-            return false;
-        }
-        i += 1;
-    }
-    true
-}
-
-fn same_entries(a: Held, b: Held) -> bool
-    ensures { result ≡ true → a.entries ≡ b.entries }
-{
-    let mut i: usize = 0;
-    while i < 16 {
-        let x = a.entries[i];
-        let y = b.entries[i];
-        if !same_entry(x, y) {
-            return false;
-        }
-        i += 1;
-    }
-    true
-}
-
-fn same_subscription(x: Subscription, y: Subscription) -> bool
-    ensures { result ≡ true → x ≡ y }
-{
-    let who = all(
-        x.id == y.id,
-        x.fabric == y.fabric,
-        x.peer == y.peer,
-        x.rx == y.rx,
-    );
-    let told = all(
-        x.reported.ms == y.reported.ms,
-        x.retry.ms == y.retry.ms,
-        x.seen == y.seen,
-        x.heard == y.heard,
-    );
-    let opening = all(
-        x.opened.ms == y.opened.ms,
-        x.mark == y.mark,
-        x.events == y.events,
-        x.reporting == y.reporting,
-    );
-    let limits = all(
-        opening,
-        x.shortest == y.shortest,
-        x.longest == y.longest,
-        x.fails == y.fails,
-    );
-    all(who, told, limits, true)
-}
-
-fn same_entry(x: ChangedAttr, y: ChangedAttr) -> bool
-    ensures { result ≡ true → x ≡ y }
-{
-    all(
-        x.endpoint == y.endpoint,
-        x.cluster == y.cluster,
-        x.attr == y.attr,
-        x.identity == y.identity,
-    )
-}
-
-fn all(a: bool, b: bool, c: bool, d: bool) -> bool
-    ensures { result ≡ true → (a ≡ true) × ((b ≡ true) × ((c ≡ true) × (d ≡ true))) }
-{
-    if a {
-        if b {
-            if c {
-                return d;
-            }
-        }
-    }
-    false
 }
