@@ -40,7 +40,7 @@ fn decided(x: Subscription, at: Settings, changed: bool) -> Reply {
         x.report_due_at(at.kind).ms,
         flag(x.is_pending(changed, 0)),
         flag(x.is_pending(false, at.events)),
-        flag(x.is_reportable(at.now, changed, at.events, at.kind, at.all)),
+        flag(x.is_reportable(at, changed)),
         x.next_report_at(changed, at.events, at.kind).ms,
     ])
 }

@@ -14,7 +14,6 @@ use Rattle.places.specs.Views.{refusal_at}
 use Rattle.places.specs.Calls.{settled_by, report_in, refused_in}
 use Rattle.round.specs.Rounds.{turn_after, turn_of, served, made, round_of}
 use Rattle.rules.specs.Calls as call
-use Rattle.lists.proofs.Bools.{split}
 use Rattle.places.proofs.Lasting.{report_lasts, complete_lasts}
 
 module _ {P : Table → Type 0} (lasting : Lasting P) where

@@ -2,19 +2,14 @@
 -- Assumes nothing.
 use Rattle.std.specs.Prelude.{Some, None}
 use mathlib.Core.Path.{◌≡◌}
-use mathlib.Core.Bool.{true, false}
 use mathlib.Core.List.{List}
 use Prim.Native.Nat.{ℕ, ◌+◌, ◌≤◌, ◌<◌}
 use native.Mathlib.Numerals.{add-one}
-use borrow.Author.Tests.{lt-ltb, le-ltb}
 use lib.ListN.{length, drop, get_or, set, drop_of_length-le}
 use lib.Seq.{drop-cons}
 use Rattle.subscription.specs.declared.Settings.{Settings}
 use Rattle.places.specs.declared.Table.{Table}
-use Rattle.lists.specs.Search.{some}
-use Rattle.rules.specs.Machine.{bad_outcome}
 use Rattle.round.specs.Rounds.{turn_of, served, stood}
-use Rattle.lists.proofs.Counts.{some_nil, some_cons}
 
 module _ (at : Settings) (os : List ℕ) (n : ℕ) (ids : List ℕ) (t : Table) where
   -- a turn that hands somebody out

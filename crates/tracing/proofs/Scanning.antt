@@ -26,7 +26,6 @@ use Rattle.places.specs.declared.Table.{Table}
 use Rattle.places.specs.Calls.{Tabled}
 use Rattle.answering.specs.Replies.{reply_to}
 use Rattle.answering.specs.Answers.{answer_in}
-use Rattle.tracing.specs.declared.Ran.{Ran}
 use Rattle.tracing.specs.declared.Session.{Session}
 use Rattle.tracing.specs.Runs.{Work, session_of, begun, line_found, moved, text_of, answered_to, told, byte_in, run_from, finish_of}
 

@@ -1,6 +1,6 @@
 -- What the derived equality says of two subscriptions, of two entries and of two lists: that they are one.
 -- Assumes nothing.
-use Rattle.std.proofs.Common.{rules, ◌≡◌, ℕ, Bool, true, false, true≢false, List, [], ◌∷◌, ◌&&◌, refl, sym, eqb}
+use Rattle.std.proofs.Common.{rules, ◌≡◌, ℕ, Bool, true, true≢false, List, [], ◌∷◌, ◌&&◌, refl, sym, eqb}
 use Rattle.std.proofs.lemmas.Bool.{eqb-true}
 use Rattle.entries.specs.contracts.ChangedAttrPartialEq.TheImpl as entry
 use Rattle.entries.specs.declared.ChangedAttr.{ChangedAttr}
@@ -40,6 +40,7 @@ whole : (x y : Subscription) → x.peer ≡ y.peer → x.reported ≡ y.reported
     → x.rx ≡ y.rx → x.fabric ≡ y.fabric → x.fails ≡ y.fails → x.reporting ≡ y.reporting → x ≡ y
 whole x y a b c d e f g h i j k l m n o = search rules
 
+-- the derived equality joins fifteen tests, in the fields' order
 pub same_place : (x y : Subscription) → place.eq-value.it x y ≡ true → x ≡ y
 same_place x y e =
     let p = five (eqb x.peer y.peer) (eqb x.reported.ms y.reported.ms) (eqb x.retry.ms y.retry.ms) (eqb x.seen y.seen) e in
@@ -52,6 +53,7 @@ same_place x y e =
     (same_number r.first) (same_number r.second) (same_number r.third) (same_number r.fourth)
     (same_number fabric.0) (same_number fails.0) (same_flag fails.1)
 
+-- lists that are equal pair by pair are one, where equal elements are
 module _ {A : Type 0} {E : A → A → Bool} (sound : (x y : A) → E x y ≡ true → x ≡ y) where
   pub alike : (xs ys : List A) → pointwise E xs ys ≡ true → xs ≡ ys
   alike [] [] e = refl

@@ -1,7 +1,6 @@
 -- `round` meets its contract: refused with 7, for its slices or for an open report, or the turns that `serve` makes.
 -- Assumes nothing.
 use mathlib.Core.Path.{sym, ◌∙◌}
-use borrow.Author.Rules.{rules}
 use Rattle.round.specs.Rounds.{round_of}
 use Rattle.rules.specs.Calls as call
 use Rattle.round.proofs.Refusing.{same_lengths, shut_is, refused_slices, refused_shut, not_refused}

@@ -1,7 +1,7 @@
 -- `serve` meets its contract: what is left of the round is the round of the outcomes that are left.
 -- Assumes nothing.
 use Rattle.std.proofs.Common.{◌≡◌, length, sym, ap, ◌∙◌, arith, length-set}
-use Rattle.round.specs.Rounds.{served, stood}
+use Rattle.round.specs.Rounds.{stood}
 use Rattle.round.proofs.Steps.{turn_made, turn_missed, turns_end}
 use Rattle.round.proofs.serve.Goals as goal
 
