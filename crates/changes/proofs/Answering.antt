@@ -1,4 +1,4 @@
--- A log by its entries, and what a call answers: a log that is not well kept is refused and handed back, another is served.
+-- A log by its entries, and what a call answers: a log that is not well kept is refused and left as it was, another is served.
 -- Assumes nothing.
 use Rattle.std.proofs.Common.{Ok, Err, ◌≡◌, ℕ, ◌<◌, ◌≤◌, true, false, not, List, [], length, sym, refl, ap, ◌∙◌, arith, length-take, ne_eqb, le-leb}
 use lib.Arith.{lt_of_le-ne}
@@ -55,7 +55,7 @@ watermark_below g h =
     let on : 0 < g.next = lt_of_le-ne (omega arith) (λ z. kept_next g h (sym z)) in
     omega arith
 
--- ---- the answers: a log that is not well kept is refused and handed back, another is served
+-- ---- the answers: a log that is not well kept is refused and left as it was, another is served
 
 module _ (g : ChangedAttrs) (h : kept g ≡ false) where
   pub note_refused : (e c a : ℕ) → noted g e c a ≡ logged (Err NotWellKept) g

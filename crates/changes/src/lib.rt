@@ -52,7 +52,8 @@ impl ChangedAttrs {
         Ok(self.held.newest(Rule::Above(0)))
     }
 
-    // A path has changed. The note takes the next identity, and from now on some entry covers the path with it.
+    // A path has changed. The note takes the next identity, and from now on some entry covers the path with it. A path is three
+    // numbers, here and in the calls above, as the Rust has it and a C host hands it over.
     #[tactic(auto, unfolding(crate::specs::Logs::noted, crate::specs::Logs::holding, crate::specs::Logs::well_kept))]
     pub fn note(&mut self, endpoint: u16, cluster: u32, attr: u32) -> Result<Entered, Refusal>
         ensures { logged result self.new ≡ noted self.old endpoint cluster attr }

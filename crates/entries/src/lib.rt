@@ -42,7 +42,7 @@ pub enum Level {
 
 impl Rule {
     // Whether the entry is one of those.
-    #[tactic(auto, unfolding(crate::specs::Paths::over, crate::specs::Paths::under, crate::specs::Paths::up_to, crate::specs::Paths::above, crate::specs::Paths::since,))]
+    #[tactic(auto, unfolding(crate::specs::Paths::over, crate::specs::Paths::under, crate::specs::Paths::up_to, crate::specs::Paths::above, crate::specs::Paths::since))]
     pub fn meets(self, x: ChangedAttr) -> bool
         ensures { result ≡ holds self x }
     {
@@ -110,7 +110,7 @@ impl ChangedAttr {
             && field_covers(wild.attr, self.attr, other.attr)
     }
 
-    // Whether the path is among those that this entry stands for.
+    // Whether the path is among those that this entry stands for. Document 01 has two sentences; that they are one is `matches_covers`.
     #[tactic(auto, unfolding(crate::specs::Paths::matches))]
     fn matches(self, path: ChangedAttr) -> bool
         ensures { result ≡ matches self path }

@@ -150,7 +150,7 @@ fn widths_of(kind: Kind) -> &'static [u64]
     }
 }
 
-// The line of a kind, with its numbers.
+// The line of a kind, with its numbers. Each is within its width, which is asked for: a cast loses nothing.
 fn line_with(kind: Kind, v: [u64; PLACES]) -> Line
     requires { Fit (widths_of kind) v }
     ensures { result ≡ filled kind v }

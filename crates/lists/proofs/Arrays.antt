@@ -1,4 +1,4 @@
--- The same searches and removals in an array of which the first places are held: one turn of a loop each.
+-- Removals in an array of which the first places are held, a turn of the sweep each.
 -- Assumes nothing.
 use mathlib.Core.Path.{sym, ◌∙◌, ◌≡◌, refl, ap}
 use mathlib.Core.Bool.{Bool, true, false}

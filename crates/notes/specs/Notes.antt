@@ -1,4 +1,4 @@
--- What a note does to the list of entries, as document 01 has it, "Change held". The array that holds them is `Logs`' matter.
+-- What a note does to the list of entries, as document 01 has it, "Change held". The array that holds them is `Places`' matter.
 -- Assumes nothing.
 use Rattle.std.specs.Prelude.{Bool, cond, List, [], ◌∷◌, ◌++◌, ℕ, max, ltb, length, fold, Option, Some, None}
 use Rattle.entries.specs.declared.ChangedAttr.{ChangedAttr}

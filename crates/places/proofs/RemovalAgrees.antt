@@ -1,5 +1,5 @@
 -- A removal from a well-kept table is the machine's at the state that the table stands for.
--- The loop over the places sweeps the machine's list, and does not touch the open ones.
+-- The sweep over the places sweeps the machine's list, and does not touch the open ones.
 -- Assumes nothing.
 use mathlib.Core.Path.{◌≡◌, refl, sym, ap, ◌∙◌}
 use mathlib.Core.Bool.{Bool, true, ◌||◌, cond}
@@ -29,7 +29,7 @@ use Rattle.places.proofs.Refusing.{kept_counts}
 use Rattle.places.proofs.Agreeing.{agreeing}
 
 module _ (p : Subscription → Bool) where
-  -- what the loop holds in the end is what the scan of the list leaves
+  -- what the sweep holds in the end is what the scan of the list leaves
   pub swept_scan : (f i n : ℕ) (l : List Subscription) → n - i ≡ f → i ≤ n → n ≤ length l
       → take (swept_from p f i n l).count (swept_from p f i n l).places ≡ scanned p i n l
   unfolding swept_from

@@ -36,7 +36,7 @@ pub record Tabled (A : Type 0) : Type 0 where
 abbrev pub tabled : {A : Type 0} → Result A Refusal → Table → Tabled A
 tabled answer table = record { answer = answer; table = table }
 
--- a refusal hands back the table as it was
+-- a refusal leaves the table as it was
 abbrev pub refused_in : {A : Type 0} → Table → Refusal → Tabled A
 refused_in t why = tabled (Err why) t
 

@@ -40,7 +40,8 @@ pub fn put_field(out: &mut [u8], at: usize, n: u64, end: u8) -> usize
     at
 }
 
-// Puts the digits of `n`, the last one last: those before it are the digits of a tenth. A loop would have to count them first.
+// Puts the digits of `n`, the last one last: those before it are the digits of a tenth. A loop would have to count them first. A digit is
+// below ten, and the cast loses nothing.
 fn put_digits(out: &mut [u8], at: usize, n: u64) -> usize
     requires { at + length (digits_of n) ≤ length out.old }
     ensures { Put out.old at (digits_of n) result out.new }

@@ -31,11 +31,13 @@ const CHUNK: usize = 65536;
 // The capacity of the table at the start.
 const CAPACITY: u8 = 80;
 
-// What goes on from line to line: the table, the line that is being read, and how many bytes of the output buffer are filled.
-#[derive(Clone, Copy)]
-struct State {
+// What goes on from line to line: the table, the line that is being read and its bytes so far, and the answers that wait to be written.
+#[derive(Drop)]
+struct Comparison {
     table: Table,
     reading: Reading,
+    held: [u8; LINE],
+    out: [u8; CHUNK],
     filled: usize,
 }
 
@@ -45,86 +47,71 @@ fn main(rt: HostRuntime) -> io::Result<()> {
     let mut input = rt.reader();
     let mut output = io::writer(&rt);
     let mut chunk = [0u8; CHUNK];
-    let mut held = [0u8; LINE];
-    let mut out = [0u8; CHUNK];
     let (_, table) = table::new(CAPACITY);
-    let mut state = State {
+    let mut comparison = Comparison {
         table,
         reading: start(u64::MAX),
+        held: [0; LINE],
+        out: [0; CHUNK],
         filled: 0,
     };
     for _ in 0..u64::MAX {
         match input.read(&mut chunk) {
             Err(e) => {
-                flushed(&mut output, &mut state, &out)?;
+                comparison.flushed(&mut output)?;
                 return Err(e);
             }
             Ok(0) => {
-                ended(&mut output, &mut state, &held, &mut out)?;
-                return flushed(&mut output, &mut state, &out);
+                comparison.ended(&mut output)?;
+                return comparison.flushed(&mut output);
             }
-            Ok(n) => fed(&mut output, &mut state, &mut held, &mut out, &chunk[..n])?,
+            Ok(n) => comparison.fed(&mut output, &chunk[..n])?,
         }
     }
     Ok(())
 }
 
-// The lines that end in `s`.
-fn fed(
-    output: &mut impl Write,
-    state: &mut State,
-    held: &mut [u8],
-    out: &mut [u8],
-    s: &[u8],
-) -> io::Result<()> {
-    let mut rest = s;
-    // A `while`, since each turn takes as many bytes as its scan does.
-    while !rest.is_empty() {
-        let t = scan(state.reading, held, rest);
-        state.reading = t.reading;
-        rest = &rest[t.used..];
-        answered(output, state, held, out, t.found)?;
+impl Comparison {
+    // The lines that end in `s`.
+    fn fed(&mut self, output: &mut impl Write, s: &[u8]) -> io::Result<()> {
+        let mut rest = s;
+        // A `while`, since each turn takes as many bytes as its scan does.
+        while !rest.is_empty() {
+            let t = scan(self.reading, &mut self.held, rest);
+            self.reading = t.reading;
+            rest = &rest[t.used..];
+            self.answered(output, t.found)?;
+        }
+        Ok(())
     }
-    Ok(())
-}
 
-// The input's end.
-fn ended(
-    output: &mut impl Write,
-    state: &mut State,
-    held: &[u8],
-    out: &mut [u8],
-) -> io::Result<()> {
-    let t = close(state.reading);
-    state.reading = t.reading;
-    answered(output, state, held, out, t.found)
-}
-
-// The answer to a line, if one has ended. The buffer is written out once it is half full: the other half has room for the longest
-// answer, which takes less than 21,000 bytes.
-fn answered(
-    output: &mut impl Write,
-    state: &mut State,
-    held: &[u8],
-    out: &mut [u8],
-    found: Found,
-) -> io::Result<()> {
-    let reply = match found {
-        Found::Nothing => return Ok(()),
-        Found::Bad => Err(Refusal::BadLine),
-        Found::Whole(n) => calls::answer(&mut state.table, &held[..n.min(held.len())]),
-    };
-    let k = replies::put_reply(out, state.filled, state.reading.number, &reply);
-    state.filled = dumps::put_state(out, k, &state.table);
-    if state.filled < out.len() / 2 {
-        return Ok(());
+    // The input's end.
+    fn ended(&mut self, output: &mut impl Write) -> io::Result<()> {
+        let t = close(self.reading);
+        self.reading = t.reading;
+        self.answered(output, t.found)
     }
-    flushed(output, state, out)
-}
 
-// The filled bytes written. A failed write ends the program.
-fn flushed(output: &mut impl Write, state: &mut State, out: &[u8]) -> io::Result<()> {
-    output.write_all(&out[..state.filled.min(out.len())])?;
-    state.filled = 0;
-    Ok(())
+    // The answer to a line, if one has ended. The buffer is written out once it is half full: the other half has room for the longest
+    // answer, which takes less than 21,000 bytes.
+    fn answered(&mut self, output: &mut impl Write, found: Found) -> io::Result<()> {
+        let reply = match found {
+            Found::Nothing => return Ok(()),
+            Found::Bad => Err(Refusal::BadLine),
+            Found::Whole(n) => calls::answer(&mut self.table, &self.held[..n.min(LINE)]),
+        };
+        let k = replies::put_reply(&mut self.out, self.filled, self.reading.number, &reply);
+        self.filled = dumps::put_state(&mut self.out, k, &self.table);
+        if self.filled < CHUNK / 2 {
+            return Ok(());
+        }
+        self.flushed(output)
+    }
+
+    // The filled bytes written. A failed write ends the program.
+    fn flushed(&mut self, output: &mut impl Write) -> io::Result<()> {
+        output.write_all(&self.out[..self.filled.min(CHUNK)])?;
+        self.filled = 0;
+        Ok(())
+    }
 }

@@ -3,15 +3,11 @@ use printing::put_field;
 
 // Puts `word` into `out` at `at`, and answers the place after it.
 pub(crate) fn put_word(out: &mut [u8], at: usize, word: &[u8]) -> usize {
-    let mut k = at;
-    for &b in word {
-        if out.len() <= k {
-            return k;
-        }
-        out[k] = b;
-        k += 1;
+    let n = word.len().min(out.len().saturating_sub(at));
+    if n > 0 {
+        out[at..at + n].copy_from_slice(&word[..n]);
     }
-    k
+    at + n
 }
 
 // Puts the numbers into `out` at `at`, `between` between them and `end` behind the last, and answers the place after it.

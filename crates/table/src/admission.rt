@@ -12,7 +12,8 @@ use places::Table;
 use refusal::Refusal;
 use subscription::Request;
 
-// Nothing, where there is a place for the request, under the id.
+// Nothing, where there is a place for the request, under the id. The counts are asked for, and no invariant of `Table`, since every call
+// takes tables that are not well kept and tests them.
 pub(crate) fn admits(table: &Table, request: Request, id: u32) -> Result<(), Refusal>
     requires { table.now.stored + table.now.opens ≤ 80 }
     ensures { result ≡ unless (first_of (admit_objections table.now request id)) }

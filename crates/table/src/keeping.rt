@@ -9,7 +9,8 @@ ghost use Rattle.table.specs.Scans.{Lived, sound};
 use super::PLACES;
 use subscription::Subscription;
 
-// Whether the live ones have different ids and a fabric each, at most one report is open, and a cancel reason is there only with it.
+// Whether the live ones have different ids and a fabric each, at most one report is open, and a cancel reason is there only with it. That
+// there are at most eighty is tested before, and no fact of two slices.
 pub(crate) fn is_sound(stored: &[Subscription], open: &[Subscription], cancel: u8) -> bool
     requires { length stored.now + length open.now ≤ 80 }
     ensures { result ≡ sound stored.now open.now cancel }

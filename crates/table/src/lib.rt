@@ -173,7 +173,7 @@ pub fn should_send_if_empty(table: &Table, id: u32, kind: KeepAlive) -> Result<b
     Ok(x.is_report_due(x.opened, kind))
 }
 
-// The earliest instant at which a stored one could report.
+// The earliest instant at which a stored one could report. `Settings` would ask for an instant and the all flag too.
 pub fn next_report_at(table: &Table, events: u64, kind: KeepAlive) -> Result<Instant, Refusal>
     ensures { result ≡ next_at table.now events kind }
 {
@@ -189,7 +189,7 @@ pub fn next_report_at(table: &Table, events: u64, kind: KeepAlive) -> Result<Ins
     Ok(least_next(stored(table), at, newest))
 }
 
-// Whether a stored one is reportable now.
+// Whether a stored one is reportable now. `Settings` would ask for the all flag too.
 pub fn any_reportable(
     table: &Table,
     now: Instant,
@@ -277,7 +277,7 @@ fn fresh(capacity: u8) -> Table
     }
 }
 
-// The first stored one that is reportable opens its report.
+// The first stored one that is reportable opens its report. It works behind the test, and asks for what that told.
 fn hand_out(table: &mut Table, at: Settings) -> Option<Handed>
     requires counts { table.old.stored + table.old.opens ≤ 80 }
     requires long { length table.old.places ≡ 80 }

@@ -1,4 +1,5 @@
-// What calls do to the table: one is stored, opens, is handed out or ends; the stored ones that a choice takes go.
+// What calls do to the table: one is stored, opens, is handed out or ends; the stored ones that a choice takes go. The counts are asked for,
+// and no invariant of `Table`, since calls take tables that are not well kept; what stands here works behind their test.
 ghost use Rattle.std.specs.Prelude.{◌≡◌, ◌+◌, ◌-◌, ◌<◌, ◌≤◌, not, ◌&&◌, if◌then◌else◌, ◌==◌, length, Ok, Some};
 ghost use Rattle.choices.specs.Choices.{chosen};
 ghost use Rattle.changes.specs.Logs.{watermark_of};

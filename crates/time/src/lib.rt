@@ -78,7 +78,7 @@ pub fn is_expired(reported: Instant, longest: u16, now: Instant) -> bool
 const BASE_SECS: u16 = 2;
 
 // The pause before a failed report is tried again: it doubles with each failure in a row, and is never longer than the subscription may
-// stay silent, since it then expires anyway.
+// stay silent, since it then expires anyway. That is sixteen bits, and the cast loses nothing.
 pub fn retry_backoff_secs(fails: u8, longest: u16) -> u16
     ensures { result ≡ backoff_secs fails longest }
 {

@@ -7,7 +7,7 @@ use Rattle.cutting.specs.declared.Reading.{Reading}
 use Rattle.cutting.specs.declared.Scanned.{Scanned}
 use Rattle.cutting.proofs.Scans.{scan_is}
 use Rattle.lists.proofs.Parts.{rest}
-use Rattle.replay.proofs.fed.Goals as goal
+use Rattle.replay.proofs.Comparison.fed.Goals as goal
 
 module _ (t : Scanned) (r : Reading) (held held' s : List ℕ) (e : (t, held') ≡ scan_of r held s) where
   used : t.used ≡ (scan_of r held s).0.used
