@@ -35,48 +35,33 @@ fn main(rt: HostRuntime) -> io::Result<()> {
 // places 78 and 79.
 fn unkept(rt: &impl Print) -> io::Result<()> {
     let busy = three(clean()).and_then(reporting).and_then(priming);
-    let waiting = three(clean()).and_then(priming);
     tried(rt, b"nothing broken", busy, 1)?;
     tried(rt, b"capacity 0", Ok(table::new(0).1), 1)?;
-    tried(
-        rt,
-        b"capacity 81",
-        Ok(Table {
-            capacity: 81,
-            ..clean()
-        }),
-        1,
-    )?;
-    tried(
-        rt,
-        b"over capacity",
-        busy.map(|t| Table { capacity: 3, ..t }),
-        1,
-    )?;
+    let t = Table {
+        capacity: 81,
+        ..clean()
+    };
+    tried(rt, b"capacity 81", Ok(t), 1)?;
+    let t = busy.map(|t| Table { capacity: 3, ..t });
+    tried(rt, b"over capacity", t, 1)?;
     tried(rt, b"17 entries", busy.map(|t| with_log(t, 17, 2)), 1)?;
     tried(rt, b"identity 0", busy.map(|t| with_log(t, 1, 0)), 1)?;
+    badly_filled(rt, busy)?;
+    let t = three(clean()).and_then(priming);
+    let t = t.map(|t| Table { cancel: 9, ..t });
+    tried(rt, b"a reason without a report", t, 4)
+}
+
+// Each clause on the live ones broken alone.
+fn badly_filled(rt: &impl Print, busy: Result<Table, Refusal>) -> io::Result<()> {
     tried(rt, b"an id stored twice", busy.map(|t| with_id(t, 1, 3)), 1)?;
     tried(rt, b"an id open twice", busy.map(|t| with_id(t, 78, 1)), 1)?;
-    tried(
-        rt,
-        b"an id stored and open",
-        busy.map(|t| with_id(t, 78, 3)),
-        1,
-    )?;
-    tried(
-        rt,
-        b"fabric 0 stored",
-        busy.map(|t| without_fabric(t, 1)),
-        1,
-    )?;
+    let t = busy.map(|t| with_id(t, 78, 3));
+    tried(rt, b"an id stored and open", t, 1)?;
+    let t = busy.map(|t| without_fabric(t, 1));
+    tried(rt, b"fabric 0 stored", t, 1)?;
     tried(rt, b"fabric 0 open", busy.map(|t| without_fabric(t, 78)), 1)?;
-    tried(rt, b"two reports", busy.map(|t| with_report(t, 78)), 1)?;
-    tried(
-        rt,
-        b"a reason without a report",
-        waiting.map(|t| Table { cancel: 9, ..t }),
-        4,
-    )
+    tried(rt, b"two reports", busy.map(|t| with_report(t, 78)), 1)
 }
 
 // Well-kept states, each without rubbish and with it, which changes no answer. Refused are only a second report, a clear while a priming is
