@@ -1,5 +1,5 @@
-// Document 01's marked examples P1 to P12 as the compiled code answers them, a line each. That the definitions give these values is proved in
-// crate rules; here the code itself is run, since the proofs do not cover the compiler's back end.
+// Document 01's marked examples P1 to P12 as the compiled code answers them, a line each. That the definitions give these values is proved
+// in crate rules; here the code itself is run, since the proofs do not cover the compiler's back end.
 #![tactic(auto)]
 
 use changes::ChangedAttrs;

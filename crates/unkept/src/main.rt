@@ -35,48 +35,33 @@ fn main(rt: HostRuntime) -> io::Result<()> {
 // places 78 and 79.
 fn unkept(rt: &impl Print) -> io::Result<()> {
     let busy = three(clean()).and_then(reporting).and_then(priming);
-    let waiting = three(clean()).and_then(priming);
     tried(rt, b"nothing broken", busy, 1)?;
     tried(rt, b"capacity 0", Ok(table::new(0).1), 1)?;
-    tried(
-        rt,
-        b"capacity 81",
-        Ok(Table {
-            capacity: 81,
-            ..clean()
-        }),
-        1,
-    )?;
-    tried(
-        rt,
-        b"over capacity",
-        busy.map(|t| Table { capacity: 3, ..t }),
-        1,
-    )?;
+    let t = Table {
+        capacity: 81,
+        ..clean()
+    };
+    tried(rt, b"capacity 81", Ok(t), 1)?;
+    let t = busy.map(|t| Table { capacity: 3, ..t });
+    tried(rt, b"over capacity", t, 1)?;
     tried(rt, b"17 entries", busy.map(|t| with_log(t, 17, 2)), 1)?;
     tried(rt, b"identity 0", busy.map(|t| with_log(t, 1, 0)), 1)?;
+    badly_filled(rt, busy)?;
+    let t = three(clean()).and_then(priming);
+    let t = t.map(|t| Table { cancel: 9, ..t });
+    tried(rt, b"a reason without a report", t, 4)
+}
+
+// Each clause on the live ones broken alone.
+fn badly_filled(rt: &impl Print, busy: Result<Table, Refusal>) -> io::Result<()> {
     tried(rt, b"an id stored twice", busy.map(|t| with_id(t, 1, 3)), 1)?;
     tried(rt, b"an id open twice", busy.map(|t| with_id(t, 78, 1)), 1)?;
-    tried(
-        rt,
-        b"an id stored and open",
-        busy.map(|t| with_id(t, 78, 3)),
-        1,
-    )?;
-    tried(
-        rt,
-        b"fabric 0 stored",
-        busy.map(|t| without_fabric(t, 1)),
-        1,
-    )?;
+    let t = busy.map(|t| with_id(t, 78, 3));
+    tried(rt, b"an id stored and open", t, 1)?;
+    let t = busy.map(|t| without_fabric(t, 1));
+    tried(rt, b"fabric 0 stored", t, 1)?;
     tried(rt, b"fabric 0 open", busy.map(|t| without_fabric(t, 78)), 1)?;
-    tried(rt, b"two reports", busy.map(|t| with_report(t, 78)), 1)?;
-    tried(
-        rt,
-        b"a reason without a report",
-        waiting.map(|t| Table { cancel: 9, ..t }),
-        4,
-    )
+    tried(rt, b"two reports", busy.map(|t| with_report(t, 78)), 1)
 }
 
 // Well-kept states, each without rubbish and with it, which changes no answer. Refused are only a second report, a clear while a priming is
@@ -203,137 +188,133 @@ fn with_report(mut t: Table, i: usize) -> Table
     t
 }
 
-// Everything that is asked of the state, if it could be made; `id` is whom completion and the questions to an open one ask for.
-fn tried(rt: &impl Print, state: &[u8], made: Result<Table, Refusal>, id: u32) -> io::Result<()> {
+// Everything that is asked of a state, if it could be made; `id` is whom completion and the questions to an open one ask for.
+fn tried(rt: &impl Print, name: &[u8], made: Result<Table, Refusal>, id: u32) -> io::Result<()> {
     match made {
-        Ok(t) => {
-            calls(rt, state, &t, id)?;
-            questions(rt, state, &t, id)
+        Ok(table) => {
+            let state = State { name, table };
+            state.calls(rt, id)?;
+            state.questions(rt, id)
         }
-        Err(why) => question(rt, state, b"not made", Err::<(), Refusal>(why)),
+        Err(why) => {
+            word(rt, name)?;
+            word(rt, b" not made:")?;
+            number(rt, why.number().into())?;
+            word(rt, b"\n")
+        }
     }
 }
 
-// Every call that changes a table.
-fn calls(rt: &impl Print, state: &[u8], t: &Table, id: u32) -> io::Result<()> {
-    call(rt, state, b"add", t, |t| {
-        table::add(t, REQUEST, 0, Instant::at(31000))
-    })?;
-    call(rt, state, b"resume", t, |t| table::resume(t, 9, REQUEST, 0))?;
-    call(rt, state, b"note", t, |t| table::note(t, 3, 6, 1))?;
-    call(rt, state, b"report", t, |t| table::report(t, due()))?;
-    call(rt, state, b"complete", t, |t| table::complete(t, id, SENT))?;
-    call(
-        rt,
-        state,
-        b"remove",
-        t,
-        |t| table::remove(t, Choice::All, 9),
-    )?;
-    call(rt, state, b"clear", t, |t| table::clear(t))?;
-    call(rt, state, b"purge", t, |t| table::purge_reported_changes(t))?;
-    rounded(rt, state, t)
+// A table, and what is said of it.
+#[derive(Clone, Copy)]
+struct State<'a> {
+    name: &'a [u8],
+    table: Table,
 }
 
-// Every question.
-fn questions(rt: &impl Print, state: &[u8], t: &Table, id: u32) -> io::Result<()> {
-    let kind = KeepAlive::Default;
-    question(
-        rt,
-        state,
-        b"attribute",
-        table::should_report_attr(t, id, 3, 6, 0),
-    )?;
-    question(
-        rt,
-        state,
-        b"send if empty",
-        table::should_send_if_empty(t, id, kind),
-    )?;
-    question(
-        rt,
-        state,
-        b"next instant",
-        table::next_report_at(t, 0, kind),
-    )?;
-    question(
-        rt,
-        state,
-        b"any reportable",
-        table::any_reportable(t, Instant::at(2000), 0, kind),
-    )?;
-    question(rt, state, b"next keep-alive", table::next_keep_alive_at(t))?;
-    question(rt, state, b"statistics", table::load_stats(t, 1))?;
-    question(
-        rt,
-        state,
-        b"has subscription",
-        table::has_subscription_for(t, 1, 8),
-    )?;
-    question(rt, state, b"well kept", Ok(table::is_kept(t)))
-}
-
-// What a call answers, and whether it leaves the table as it was.
-fn call<T: Tell, F: FnOnce(&mut Table) -> Result<T, Refusal>>(
-    rt: &impl Print,
-    state: &[u8],
-    name: &[u8],
-    given: &Table,
-    act: F,
-) -> io::Result<()>
-    requires { F.IsAlwaysCallable act }
-{
-    let mut t = *given;
-    answer(rt, state, name, act(&mut t))?;
-    back(rt, given, &t)
-}
-
-// A round of two outcomes; behind the colon the ids, which were 77.
-fn rounded(rt: &impl Print, state: &[u8], given: &Table) -> io::Result<()> {
-    let mut t = *given;
-    let mut ids = [77; 2];
-    let made = round::round(&mut t, due(), &[SENT; 2], &mut ids);
-    answer(rt, state, b"round", made)?;
-    word(rt, b" :")?;
-    number(rt, ids[0].into())?;
-    number(rt, ids[1].into())?;
-    back(rt, given, &t)
-}
-
-fn question<T: Tell>(
-    rt: &impl Print,
-    state: &[u8],
-    name: &[u8],
-    told: Result<T, Refusal>,
-) -> io::Result<()> {
-    answer(rt, state, name, told)?;
-    word(rt, b"\n")
-}
-
-// The state and the call; then the code, and what is told where it acted.
-fn answer<T: Tell>(
-    rt: &impl Print,
-    state: &[u8],
-    name: &[u8],
-    told: Result<T, Refusal>,
-) -> io::Result<()> {
-    word(rt, state)?;
-    word(rt, b": ")?;
-    word(rt, name)?;
-    match told {
-        Ok(x) => {
-            number(rt, 0)?;
-            x.tell(rt)
-        }
-        Err(why) => number(rt, why.number().into()),
+impl State<'_> {
+    // Every call that changes a table.
+    fn calls(&self, rt: &impl Print, id: u32) -> io::Result<()> {
+        let now = Instant::at(31000);
+        self.call(rt, b"add", |t| table::add(t, REQUEST, 0, now))?;
+        self.call(rt, b"resume", |t| table::resume(t, 9, REQUEST, 0))?;
+        self.call(rt, b"note", |t| table::note(t, 3, 6, 1))?;
+        self.call(rt, b"report", |t| table::report(t, due()))?;
+        self.call(rt, b"complete", |t| table::complete(t, id, SENT))?;
+        self.call(rt, b"remove", |t| table::remove(t, Choice::All, 9))?;
+        self.call(rt, b"clear", |t| table::clear(t))?;
+        self.call(rt, b"purge", |t| table::purge_reported_changes(t))?;
+        self.round(rt)
     }
-}
 
-fn back(rt: &impl Print, given: &Table, t: &Table) -> io::Result<()> {
-    if same(given, t) {
-        word(rt, b" same\n")
-    } else {
-        word(rt, b" changed\n")
+    // Every question.
+    fn questions(&self, rt: &impl Print, id: u32) -> io::Result<()> {
+        let t = &self.table;
+        let kind = KeepAlive::Default;
+        let now = Instant::at(2000);
+        self.question(rt, b"attribute", table::should_report_attr(t, id, 3, 6, 0))?;
+        self.question(
+            rt,
+            b"send if empty",
+            table::should_send_if_empty(t, id, kind),
+        )?;
+        self.question(rt, b"next instant", table::next_report_at(t, 0, kind))?;
+        self.question(
+            rt,
+            b"any reportable",
+            table::any_reportable(t, now, 0, kind),
+        )?;
+        self.question(rt, b"next keep-alive", table::next_keep_alive_at(t))?;
+        self.question(rt, b"statistics", table::load_stats(t, 1))?;
+        self.question(
+            rt,
+            b"has subscription",
+            table::has_subscription_for(t, 1, 8),
+        )?;
+        self.question(rt, b"well kept", Ok(table::is_kept(t)))
+    }
+
+    // What a call answers, and whether it leaves the table as it was.
+    fn call<T: Tell, F: FnOnce(&mut Table) -> Result<T, Refusal>>(
+        &self,
+        rt: &impl Print,
+        call: &[u8],
+        act: F,
+    ) -> io::Result<()>
+        requires { F.IsAlwaysCallable act }
+    {
+        let mut t = self.table;
+        self.answer(rt, call, act(&mut t))?;
+        self.back(rt, &t)
+    }
+
+    // A round of two outcomes; behind the colon the ids, which were 77.
+    fn round(&self, rt: &impl Print) -> io::Result<()> {
+        let mut t = self.table;
+        let mut ids = [77; 2];
+        let made = round::round(&mut t, due(), &[SENT; 2], &mut ids);
+        self.answer(rt, b"round", made)?;
+        word(rt, b" :")?;
+        number(rt, ids[0].into())?;
+        number(rt, ids[1].into())?;
+        self.back(rt, &t)
+    }
+
+    fn question<T: Tell>(
+        &self,
+        rt: &impl Print,
+        call: &[u8],
+        told: Result<T, Refusal>,
+    ) -> io::Result<()> {
+        self.answer(rt, call, told)?;
+        word(rt, b"\n")
+    }
+
+    // The state and the call; then the code, and what is told where it acted.
+    fn answer<T: Tell>(
+        &self,
+        rt: &impl Print,
+        call: &[u8],
+        told: Result<T, Refusal>,
+    ) -> io::Result<()> {
+        word(rt, self.name)?;
+        word(rt, b": ")?;
+        word(rt, call)?;
+        match told {
+            Ok(x) => {
+                number(rt, 0)?;
+                x.tell(rt)
+            }
+            Err(why) => number(rt, why.number().into()),
+        }
+    }
+
+    fn back(&self, rt: &impl Print, t: &Table) -> io::Result<()> {
+        if same(&self.table, t) {
+            word(rt, b" same\n")
+        } else {
+            word(rt, b" changed\n")
+        }
     }
 }
 
