@@ -65,8 +65,7 @@ fn crowded<F: Fn(u8) -> (u16, u32, u32)>(
 // The example's name and its value.
 fn value(rt: &impl Print, name: &[u8], seconds: u16) -> io::Result<()> {
     rt.write_all(name)?;
-    number(rt, seconds.into())?;
-    rt.write_all(b"\n")
+    print!(rt; " {seconds}\n")
 }
 
 // The example's name and the log's entries.
@@ -82,11 +81,7 @@ fn log(rt: &impl Print, name: &[u8], made: Result<ChangedAttrs, Refusal>) -> io:
 // Each entry as endpoint, cluster, attribute and identity.
 fn entries(rt: &impl Print, log: &ChangedAttrs) -> io::Result<()> {
     for x in log.held.entries.iter().take(log.held.len) {
-        rt.write_all(b" :")?;
-        number(rt, x.endpoint.into())?;
-        number(rt, x.cluster.into())?;
-        number(rt, x.attr.into())?;
-        number(rt, x.identity)?;
+        print!(rt; " : {} {} {} {}", x.endpoint, x.cluster, x.attr, x.identity)?;
     }
     Ok(())
 }
@@ -104,7 +99,7 @@ fn last_id(rt: &impl Print) -> io::Result<()> {
 // The id that was given, or the number of the refusal.
 fn admission(rt: &impl Print, answer: Result<u32, Refusal>) -> io::Result<()> {
     match answer {
-        Ok(id) => number(rt, id.into()),
+        Ok(id) => print!(rt; " {id}"),
         Err(why) => refused(rt, why),
     }
 }
@@ -145,16 +140,11 @@ fn swapped() -> Result<(Table, Table), Refusal> {
 fn stored(rt: &impl Print, table: &Table) -> io::Result<()> {
     rt.write_all(b" :")?;
     for x in table.places.iter().take(table.stored) {
-        number(rt, x.id.into())?;
+        print!(rt; " {}", x.id)?;
     }
     Ok(())
 }
 
 fn refused(rt: &impl Print, why: Refusal) -> io::Result<()> {
-    rt.write_all(b" refused")?;
-    number(rt, why.number().into())
-}
-
-fn number(rt: &impl Print, n: u64) -> io::Result<()> {
-    print!(rt; " {n}")
+    print!(rt; " refused {}", why.number())
 }

@@ -1,6 +1,6 @@
 // Refusal 7 as the compiled code gives it. Every call that takes a table is handed states with one clause of "Well kept" broken, then
 // well-kept ones, with and without rubbish where nothing is held. A line says the state, the call, its code, its answer where it acts, and,
-// where a table comes back, whether it is the one given. What calls answer is proved in the crates below; here the code itself is run.
+// of a call that may change the table, whether it did. What calls answer is proved in the crates below; here the code itself is run.
 #![tactic(auto)]
 
 ghost use Rattle.std.specs.Prelude.{◌≡◌, true, ◌<◌};
@@ -167,25 +167,33 @@ fn with_log(t: Table, len: usize, next: u64) -> Table {
     }
 }
 
-fn with_id(mut t: Table, i: usize, id: u32) -> Table
-    requires { i < 80 }
+// The table with the subscription in a place made another; a place that is none alters nothing.
+fn with<F: FnOnce(Subscription) -> Subscription>(mut t: Table, i: usize, other: F) -> Table
+    requires { F.IsAlwaysCallable other }
 {
-    t.places[i].id = id;
+    if i < t.places.len() {
+        t.places[i] = other(t.places[i]);
+    }
     t
 }
 
-fn without_fabric(mut t: Table, i: usize) -> Table
-    requires { i < 80 }
-{
-    t.places[i].fabric = 0;
-    t
+fn with_id(t: Table, i: usize, id: u32) -> Table {
+    with(t, i, |x| Subscription { id, ..x })
 }
 
-fn with_report(mut t: Table, i: usize) -> Table
-    requires { i < 80 }
-{
-    t.places[i].reporting = true;
-    t
+fn without_fabric(t: Table, i: usize) -> Table {
+    with(t, i, |x| Subscription { fabric: 0, ..x })
+}
+
+fn with_report(t: Table, i: usize) -> Table {
+    with(
+        t,
+        i,
+        |x| Subscription {
+            reporting: true,
+            ..x
+        },
+    )
 }
 
 // Everything that is asked of a state, if it could be made; `id` is whom completion and the questions to an open one ask for.
@@ -198,9 +206,7 @@ fn tried(rt: &impl Print, name: &[u8], made: Result<Table, Refusal>, id: u32) ->
         }
         Err(why) => {
             word(rt, name)?;
-            word(rt, b" not made:")?;
-            number(rt, why.number().into())?;
-            word(rt, b"\n")
+            print!(rt; " not made: {}\n", why.number())
         }
     }
 }
@@ -274,9 +280,7 @@ impl State<'_> {
         let mut ids = [77; 2];
         let made = round::round(&mut t, due(), &[SENT; 2], &mut ids);
         self.answer(rt, b"round", made)?;
-        word(rt, b" :")?;
-        number(rt, ids[0].into())?;
-        number(rt, ids[1].into())?;
+        print!(rt; " : {} {}", ids[0], ids[1])?;
         self.back(rt, &t)
     }
 
@@ -302,10 +306,10 @@ impl State<'_> {
         word(rt, call)?;
         match told {
             Ok(x) => {
-                number(rt, 0)?;
+                word(rt, b" 0")?;
                 x.tell(rt)
             }
-            Err(why) => number(rt, why.number().into()),
+            Err(why) => print!(rt; " {}", why.number()),
         }
     }
 
@@ -340,20 +344,20 @@ impl Tell for () {
 // Whether it is so.
 impl Tell for bool {
     fn tell(self, rt: &impl Print) -> io::Result<()> {
-        number(rt, flag(self))
+        print!(rt; " {}", flag(self))
     }
 }
 
 // An id.
 impl Tell for u32 {
     fn tell(self, rt: &impl Print) -> io::Result<()> {
-        number(rt, self.into())
+        print!(rt; " {self}")
     }
 }
 
 impl Tell for Instant {
     fn tell(self, rt: &impl Print) -> io::Result<()> {
-        number(rt, self.ms)
+        print!(rt; " {}", self.ms)
     }
 }
 
@@ -369,8 +373,7 @@ impl Tell for Option<Instant> {
 // The identity, and whether it wakes.
 impl Tell for Heard {
     fn tell(self, rt: &impl Print) -> io::Result<()> {
-        number(rt, self.identity)?;
-        self.wakes.tell(rt)
+        print!(rt; " {} {}", self.identity, flag(self.wakes))
     }
 }
 
@@ -378,10 +381,7 @@ impl Tell for Heard {
 impl Tell for Option<Handed> {
     fn tell(self, rt: &impl Print) -> io::Result<()> {
         match self {
-            Some(Handed { id, rx }) => {
-                number(rt, id.into())?;
-                number(rt, rx.into())
-            }
+            Some(Handed { id, rx }) => print!(rt; " {id} {rx}"),
             None => word(rt, b" nothing"),
         }
     }
@@ -390,30 +390,22 @@ impl Tell for Option<Handed> {
 // Whether it is kept, and whether its subscriber has gone quiet.
 impl Tell for Ended {
     fn tell(self, rt: &impl Print) -> io::Result<()> {
-        self.kept.tell(rt)?;
-        self.failed.tell(rt)
+        print!(rt; " {} {}", flag(self.kept), flag(self.failed))
     }
 }
 
 // Counted places, the stored of the fabric, and the ids given so far.
 impl Tell for Load {
     fn tell(self, rt: &impl Print) -> io::Result<()> {
-        number(rt, self.places as u64)?;
-        number(rt, self.fabric as u64)?;
-        number(rt, self.established.into())
+        print!(rt; " {} {} {}", self.places, self.fabric, self.established)
     }
 }
 
 // How many were handed out, and whether nothing is reportable then.
 impl Tell for Ending {
     fn tell(self, rt: &impl Print) -> io::Result<()> {
-        number(rt, self.handouts as u64)?;
-        self.silent.tell(rt)
+        print!(rt; " {} {}", self.handouts, flag(self.silent))
     }
-}
-
-fn number(rt: &impl Print, n: u64) -> io::Result<()> {
-    print!(rt; " {n}")
 }
 
 fn word(rt: &impl Print, text: &[u8]) -> io::Result<()> {
