@@ -23,23 +23,23 @@ const DONE: [u64; 2] = [BITS32, BITS8];
 
 // The answer to the line `s` at the table `t`.
 pub(crate) fn answer(t: &mut Table, s: &[u8]) -> Reply {
-    if s.starts_with(b"new,") {
-        return new(t, read(s, 4, &NEW)?);
+    if let Some(rest) = s.strip_prefix(b"new,") {
+        return new(t, read(rest, &NEW)?);
     }
-    if s.starts_with(b"add,") {
-        return add(t, read(s, 4, &ADD)?);
+    if let Some(rest) = s.strip_prefix(b"add,") {
+        return add(t, read(rest, &ADD)?);
     }
-    if s.starts_with(b"resume,") {
-        return resume(t, read(s, 7, &RESUME)?);
+    if let Some(rest) = s.strip_prefix(b"resume,") {
+        return resume(t, read(rest, &RESUME)?);
     }
-    if s.starts_with(b"note,") {
-        return note(t, read(s, 5, &NOTE)?);
+    if let Some(rest) = s.strip_prefix(b"note,") {
+        return note(t, read(rest, &NOTE)?);
     }
-    if s.starts_with(b"report,") {
-        return report(t, read(s, 7, &REPORT)?);
+    if let Some(rest) = s.strip_prefix(b"report,") {
+        return report(t, read(rest, &REPORT)?);
     }
-    if s.starts_with(b"done,") {
-        return done(t, read(s, 5, &DONE)?);
+    if let Some(rest) = s.strip_prefix(b"done,") {
+        return done(t, read(rest, &DONE)?);
     }
     if s == b"purge".as_slice() {
         table::purge_reported_changes(t)?;

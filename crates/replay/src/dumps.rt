@@ -34,14 +34,13 @@ fn put_named(out: &mut [u8], at: usize, name: &[u8], n: u64) -> usize {
 
 // The entries, in their order.
 fn put_log(out: &mut [u8], at: usize, held: &Held) -> usize {
-    let mut k = put_word(out, at, b"log=");
-    if held.len == 0 {
-        return put_word(out, k, b" ");
-    }
-    for (i, x) in held.entries.iter().take(held.len).enumerate() {
-        k = put_entry(out, k, x, behind(i + 1, held.len, b';', b' '));
-    }
-    k
+    let k = put_word(out, at, b"log=");
+    put_list(
+        out,
+        k,
+        &held.entries[..held.len.min(held.entries.len())],
+        put_entry,
+    )
 }
 
 fn put_entry(out: &mut [u8], at: usize, x: &ChangedAttr, end: u8) -> usize {
@@ -56,12 +55,30 @@ fn put_entry(out: &mut [u8], at: usize, x: &ChangedAttr, end: u8) -> usize {
 
 // The stored ones, in their order.
 fn put_stored(out: &mut [u8], at: usize, t: &Table) -> usize {
-    let mut k = put_word(out, at, b"stored=");
-    if t.stored == 0 {
-        return put_word(out, k, b" ");
+    let k = put_word(out, at, b"stored=");
+    put_list(
+        out,
+        k,
+        &t.places[..t.stored.min(t.places.len())],
+        put_subscription,
+    )
+}
+
+// Each of `xs` as `put` writes it, and a space behind the last, or alone where there is none.
+fn put_list<T, F: Fn(&mut [u8], usize, &T, u8) -> usize>(
+    out: &mut [u8],
+    at: usize,
+    xs: &[T],
+    put: F,
+) -> usize
+    requires { F.IsAlwaysCallable put }
+{
+    if xs.is_empty() {
+        return put_word(out, at, b" ");
     }
-    for (i, x) in t.places.iter().take(t.stored).enumerate() {
-        k = put_subscription(out, k, x, behind(i + 1, t.stored, b';', b' '));
+    let mut k = at;
+    for (i, x) in xs.iter().enumerate() {
+        k = put(out, k, x, behind(i + 1, xs.len(), b';', b' '));
     }
     k
 }
@@ -75,14 +92,14 @@ fn put_report(out: &mut [u8], at: usize, t: &Table) -> usize {
     }
 }
 
-// The primings, in the order of their ids.
+// The primings, in the order of their ids: each is sought by the one before, since a sorted copy would take memory.
 fn put_primings(out: &mut [u8], at: usize, t: &Table) -> usize {
     let mut k = put_word(out, at, b"primings=");
     let mut here = priming_after(t, None);
     if here.is_none() {
         return put_word(out, k, b"\r");
     }
-    for _ in 0..80u8 {
+    for _ in 0..t.places.len() {
         let Some(x) = here else {
             return k;
         };
@@ -135,5 +152,5 @@ fn priming_after(t: &Table, last: Option<u32>) -> Option<&Subscription> {
 
 // The open ones, which stand at the far end.
 fn open_ones(t: &Table) -> &[Subscription] {
-    &t.places[80 - t.opens.min(80)..]
+    &t.places[t.places.len() - t.opens.min(t.places.len())..]
 }

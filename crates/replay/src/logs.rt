@@ -9,12 +9,12 @@ const IDENTITY: [u64; 1] = [BITS64];
 
 // The answer to the line `s` at the table `t`. Every other line leaves the table as it is.
 pub(crate) fn answer(t: &mut Table, s: &[u8]) -> Reply {
-    if s.starts_with(b"setidentity,") {
-        let v = read(s, 12, &IDENTITY)?;
+    if let Some(rest) = s.strip_prefix(b"setidentity,") {
+        let v = read(rest, &IDENTITY)?;
         return set_identity(t, v[0]);
     }
-    if s.starts_with(b"logpurge,") {
-        let v = read(s, 9, &IDENTITY)?;
+    if let Some(rest) = s.strip_prefix(b"logpurge,") {
+        let v = read(rest, &IDENTITY)?;
         t.log.purge_up_to(v[0])?;
         return told(&[]);
     }

@@ -27,37 +27,37 @@ const SINCE: [u64; 1] = [BITS64];
 
 // The answer to the line `s` at the table `t`.
 pub(crate) fn answer(t: &Table, s: &[u8]) -> Reply {
-    if s.starts_with(b"attr,") {
-        return attribute(t, read(s, 5, &ATTR)?);
+    if let Some(rest) = s.strip_prefix(b"attr,") {
+        return attribute(t, read(rest, &ATTR)?);
     }
-    if s.starts_with(b"sendempty,") {
-        return send_empty(t, read(s, 10, &SEND_EMPTY)?);
+    if let Some(rest) = s.strip_prefix(b"sendempty,") {
+        return send_empty(t, read(rest, &SEND_EMPTY)?);
     }
-    if s.starts_with(b"wake,") {
-        return wake(t, read(s, 5, &WAKE)?);
+    if let Some(rest) = s.strip_prefix(b"wake,") {
+        return wake(t, read(rest, &WAKE)?);
     }
-    if s.starts_with(b"any,") {
-        return any(t, read(s, 4, &ANY)?);
+    if let Some(rest) = s.strip_prefix(b"any,") {
+        return any(t, read(rest, &ANY)?);
     }
     if s == b"keepalive".as_slice() {
         return alive(t);
     }
-    if s.starts_with(b"stats,") {
-        return statistics(t, read(s, 6, &STATS)?);
+    if let Some(rest) = s.strip_prefix(b"stats,") {
+        return statistics(t, read(rest, &STATS)?);
     }
-    if s.starts_with(b"has,") {
-        return has(t, read(s, 4, &HAS)?);
+    if let Some(rest) = s.strip_prefix(b"has,") {
+        return has(t, read(rest, &HAS)?);
     }
     asked_of_the_log(&t.log, s)
 }
 
 // The same, of questions that go to the log alone.
 fn asked_of_the_log(log: &ChangedAttrs, s: &[u8]) -> Reply {
-    if s.starts_with(b"changed,") {
-        return changed(log, read(s, 8, &CHANGED)?);
+    if let Some(rest) = s.strip_prefix(b"changed,") {
+        return changed(log, read(rest, &CHANGED)?);
     }
-    if s.starts_with(b"anysince,") {
-        let v = read(s, 9, &SINCE)?;
+    if let Some(rest) = s.strip_prefix(b"anysince,") {
+        let v = read(rest, &SINCE)?;
         return told(&[flag(log.any_since(v[0])?)]);
     }
     if s == b"watermark".as_slice() {

@@ -19,24 +19,24 @@ const EXPIRED: [u64; 2] = [BITS64, BITS8];
 
 // The answer to the line `s` at the table `t`. The reason is the last field.
 pub(crate) fn answer(t: &mut Table, s: &[u8]) -> Reply {
-    if s.starts_with(b"remove,all,") {
-        let v = read(s, 11, &ALL)?;
+    if let Some(rest) = s.strip_prefix(b"remove,all,") {
+        let v = read(rest, &ALL)?;
         return removed(t, Choice::All, v[0]);
     }
-    if s.starts_with(b"remove,fabric,") {
-        let v = read(s, 14, &FABRIC)?;
+    if let Some(rest) = s.strip_prefix(b"remove,fabric,") {
+        let v = read(rest, &FABRIC)?;
         return removed(t, Choice::Fabric(narrow(v[0])), v[1]);
     }
-    if s.starts_with(b"remove,peer,") {
-        let v = read(s, 12, &PEER)?;
+    if let Some(rest) = s.strip_prefix(b"remove,peer,") {
+        let v = read(rest, &PEER)?;
         return removed(t, Choice::Peer(narrow(v[0]), v[1]), v[2]);
     }
-    if s.starts_with(b"remove,id,") {
-        let v = read(s, 10, &ID)?;
+    if let Some(rest) = s.strip_prefix(b"remove,id,") {
+        let v = read(rest, &ID)?;
         return removed(t, Choice::Id(narrow(v[0])), v[1]);
     }
-    if s.starts_with(b"remove,expired,") {
-        let v = read(s, 15, &EXPIRED)?;
+    if let Some(rest) = s.strip_prefix(b"remove,expired,") {
+        let v = read(rest, &EXPIRED)?;
         return removed(t, Choice::ExpiredAt(Instant::at(v[0])), v[1]);
     }
     if s == b"clear".as_slice() {

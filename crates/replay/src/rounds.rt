@@ -25,15 +25,15 @@ const UNWRITTEN: u32 = 900_000_000;
 
 // The answer to the line `s` at the table `t`.
 pub(crate) fn answer(t: &mut Table, s: &[u8]) -> Reply {
-    if s.starts_with(b"round,") {
-        return round_line(t, s);
+    if let Some(rest) = s.strip_prefix(b"round,") {
+        return round_line(t, rest);
     }
     super::logs::answer(t, s)
 }
 
 fn round_line(t: &mut Table, s: &[u8]) -> Reply {
     let (front, behind) = s.split_at(head(s));
-    let v = read(front, 6, &ROUND)?;
+    let v = read(front, &ROUND)?;
     let mut outcomes = [0u8; OUTCOMES];
     let count = read_outcomes(behind, &mut outcomes).ok_or(Refusal::BadLine)?;
     let mut ids = unwritten();
@@ -43,12 +43,12 @@ fn round_line(t: &mut Table, s: &[u8]) -> Reply {
     made(ending, lent)
 }
 
-// Where the sixth comma stands, behind the word, the settings and the slots; the line's end, where there is none.
+// Where the fifth comma stands, behind the settings and the slots; the line's end, where there is none.
 fn head(s: &[u8]) -> usize
     ensures { result ≤ length s.now }
 {
     let mut commas = s.iter().enumerate().filter(|(_, b)| **b == b',');
-    commas.nth(5).map_or(s.len(), |(i, _)| i)
+    commas.nth(4).map_or(s.len(), |(i, _)| i)
 }
 
 // How many outcomes `s` has, each behind its comma, which are put into `into`; none where it is no such part.

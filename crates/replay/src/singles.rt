@@ -16,8 +16,8 @@ const SINGLE: [u64; 11] = [
 
 // The answer to the line `s` with the log.
 pub(crate) fn answer(log: &ChangedAttrs, s: &[u8]) -> Reply {
-    if s.starts_with(b"single,") {
-        return single(log, read(s, 7, &SINGLE)?);
+    if let Some(rest) = s.strip_prefix(b"single,") {
+        return single(log, read(rest, &SINGLE)?);
     }
     super::times::answer(s)
 }
@@ -48,20 +48,13 @@ fn decided(x: Subscription, at: Settings, changed: bool) -> Reply {
 // With no name and no peer, since no decision asks for them.
 fn subscription(v: [u64; PLACES]) -> Subscription {
     Subscription {
-        peer: 0,
-        reported: Instant::at(v[2]),
-        retry: Instant::at(v[3]),
-        seen: v[5],
-        heard: v[6],
-        mark: 0,
-        events: 0,
-        opened: Instant::FIRST,
-        id: 0,
         shortest: narrow(v[0]),
         longest: narrow(v[1]),
-        rx: 0,
-        fabric: 0,
+        reported: Instant::at(v[2]),
+        retry: Instant::at(v[3]),
         fails: narrow(v[4]),
-        reporting: false,
+        seen: v[5],
+        heard: v[6],
+        ..Subscription::BLANK
     }
 }

@@ -20,20 +20,20 @@ const EXPIRED: [u64; 3] = [BITS64, BITS16, BITS64];
 
 // The answer to the line `s`.
 pub(crate) fn answer(s: &[u8]) -> Reply {
-    if s.starts_with(b"backoff,") {
-        return backoff(read(s, 8, &BACKOFF)?);
+    if let Some(rest) = s.strip_prefix(b"backoff,") {
+        return backoff(read(rest, &BACKOFF)?);
     }
-    if s.starts_with(b"dueafter,") {
-        return due_after(read(s, 9, &DUE_AFTER)?);
+    if let Some(rest) = s.strip_prefix(b"dueafter,") {
+        return due_after(read(rest, &DUE_AFTER)?);
     }
-    if s.starts_with(b"icdmax,") {
-        return icd_max(read(s, 7, &ICD_MAX)?);
+    if let Some(rest) = s.strip_prefix(b"icdmax,") {
+        return icd_max(read(rest, &ICD_MAX)?);
     }
-    if s.starts_with(b"submax,") {
-        return sub_max(read(s, 7, &SUB_MAX)?);
+    if let Some(rest) = s.strip_prefix(b"submax,") {
+        return sub_max(read(rest, &SUB_MAX)?);
     }
-    if s.starts_with(b"expired,") {
-        return expired(read(s, 8, &EXPIRED)?);
+    if let Some(rest) = s.strip_prefix(b"expired,") {
+        return expired(read(rest, &EXPIRED)?);
     }
     Err(Refusal::BadLine)
 }

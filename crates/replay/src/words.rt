@@ -2,9 +2,9 @@
 use fields::{PLACES, read_fields};
 use refusal::Refusal;
 
-// The fields of the line `s` from `from` on; a line that has others is bad.
-pub(crate) fn read(s: &[u8], from: usize, widths: &[u64]) -> Result<[u64; PLACES], Refusal> {
-    read_fields(s, from, widths).ok_or(Refusal::BadLine)
+// The fields behind a line's word; a line that has others is bad.
+pub(crate) fn read(s: &[u8], widths: &[u64]) -> Result<[u64; PLACES], Refusal> {
+    read_fields(s, 0, widths).ok_or(Refusal::BadLine)
 }
 
 // A field as a number of the width that it was read within; any number above that width would be 0.
