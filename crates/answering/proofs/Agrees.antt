@@ -30,21 +30,21 @@ use Rattle.places.proofs.Tidying.{whole_lasts, fresh_tidy}
 use Rattle.places.proofs.TidyViews.{whole_kept}
 use Rattle.lines.specs.declared.Line.{Line}
 use Rattle.lines.specs.declared.Line.TheVariants.{New, Add, Note, Report, Done, Attr, Wake, Bad}
-use Rattle.answering.specs.Replies.{told, reply_to, valued, changed, handed_value}
+use Rattle.answering.specs.Replies.{told, coded, valued, valued_in, handed_value}
 use Rattle.answering.specs.Answers.{request_of, settings_of, renewed_by, renewed_in, added_in, noted_in, reported_in, done_in, answer_in}
 use Rattle.answering.specs.Rules.{call_of, reply_of, Said, said_by, line_by, line_step, spoken}
 
 -- an answer's code and value are those of the machine's, where what was answered comes to the same value
 module _ {A : Type 0} (f : A → ℕ) (g : A → Answer) (same : (x : A) → told (f x) ≡ reply_of (g x)) where
-  replied : (a : Result A Refusal) → reply_to (valued f a) ≡ reply_of (answer_by g a)
+  replied : (a : Result A Refusal) → coded (valued f a) ≡ reply_of (answer_by g a)
   replied (Ok x) = same x
   replied (Err why) = refl
 
   -- of a call that changes the table, and of a question
-  said : (r : Tabled A) → spoken (changed f r) ≡ said_by (says_by g r)
+  said : (r : Tabled A) → spoken (valued_in f r) ≡ said_by (says_by g r)
   said r = ap (λ p. record { reply = p; state = view r.table }) (replied r.answer)
 
-  asked : (t : Table) (a : Result A Refusal) → record { reply = reply_to (valued f a); state = view t } ≡ said_by (asked_by g t a)
+  asked : (t : Table) (a : Result A Refusal) → record { reply = coded (valued f a); state = view t } ≡ said_by (asked_by g t a)
   asked t a = ap (λ p. record { reply = p; state = view t }) (replied a)
 
 handed_same : (x : Option Handed) → told (handed_value x) ≡ reply_of (hand_out_answer x)

@@ -12,7 +12,7 @@ use Rattle.places.specs.declared.Table.{Table}
 use Rattle.places.specs.Calls.{Tabled, tabled, refused_in, new_table, add_to, note_in, report_in, complete_in, attribute_at, next_at}
 use Rattle.lines.specs.declared.Line.{Line}
 use Rattle.lines.specs.declared.Line.TheVariants.{New, Add, Note, Report, Done, Attr, Wake, Bad}
-use Rattle.answering.specs.Replies.{valued, changed, handed_value}
+use Rattle.answering.specs.Replies.{valued, valued_in, handed_value}
 
 -- what a line asks to be admitted, and what it asks a report with
 abbrev pub request_of : ℕ → ℕ → ℕ → ℕ → ℕ → Request
@@ -34,19 +34,19 @@ renewed_in t capacity = renewed_by t (new_table capacity).answer (new_table capa
 
 -- add,now,fabric,peer,min,max,events,rx
 unfoldable pub added_in : Table → Request → ℕ → ℕ → Tabled ℕ
-added_in t request events now = changed (λ id. id) (add_to t request events (instant now))
+added_in t request events now = valued_in (λ id. id) (add_to t request events (instant now))
 
 -- note,endpoint,cluster,attribute
 unfoldable pub noted_in : Table → ℕ → ℕ → ℕ → Tabled ℕ
-noted_in t endpoint cluster attr = changed (λ x. x.identity) (note_in t endpoint cluster attr)
+noted_in t endpoint cluster attr = valued_in (λ x. x.identity) (note_in t endpoint cluster attr)
 
 -- report,now,events,icd,all
 unfoldable pub reported_in : Table → Settings → Tabled ℕ
-reported_in t at = changed handed_value (report_in t at)
+reported_in t at = valued_in handed_value (report_in t at)
 
 -- done,id,outcome
 unfoldable pub done_in : Table → ℕ → ℕ → Tabled ℕ
-done_in t id outcome = changed (λ x. one x.kept) (complete_in t id outcome)
+done_in t id outcome = valued_in (λ x. one x.kept) (complete_in t id outcome)
 
 -- attr,id,endpoint,cluster,attribute
 abbrev pub asked_in : Table → ℕ → ℕ → ℕ → ℕ → Result ℕ Refusal

@@ -21,8 +21,8 @@ abbrev pub refused_with : Refusal → Reply
 refused_with why = record { code = number_of why; value = 0 }
 
 -- an answer's code and value
-abbrev pub reply_to : Result ℕ Refusal → Reply
-reply_to answer = record { code = answer_number answer; value = mark_value answer }
+abbrev pub coded : Result ℕ Refusal → Reply
+coded answer = record { code = answer_number answer; value = mark_value answer }
 
 -- an answer with the value that f gives of what was answered
 abbrev pub valued : {A : Type 0} → (A → ℕ) → Result A Refusal → Result ℕ Refusal
@@ -30,8 +30,8 @@ valued f (Ok x) = Ok (f x)
 valued f (Err why) = Err why
 
 -- the same of a call that changes the table
-abbrev pub changed : {A : Type 0} → (A → ℕ) → Tabled A → Tabled ℕ
-changed f r = tabled (valued f r.answer) r.table
+abbrev pub valued_in : {A : Type 0} → (A → ℕ) → Tabled A → Tabled ℕ
+valued_in f r = tabled (valued f r.answer) r.table
 
 -- report: "id or 0 for Nothing"
 abbrev pub handed_value : Option Handed → ℕ

@@ -13,7 +13,7 @@ use Rattle.lines.specs.declared.Line.{Line}
 use Rattle.lines.specs.declared.Line.TheVariants.{New, Add, Note, Report, Done, Attr, Wake, Bad}
 use Rattle.places.specs.Views.{view}
 use Rattle.places.specs.Calls.{Tabled}
-use Rattle.answering.specs.Replies.{Reply, told, refused_with, reply_to}
+use Rattle.answering.specs.Replies.{Reply, told, refused_with, coded}
 use Rattle.answering.specs.Answers.{request_of, settings_of}
 
 -- the call of a line: "new,capacity / add,now,fabric,peer,min,max,events,rx / note,endpoint,cluster,attribute / report,now,events,icd,all /
@@ -63,4 +63,4 @@ line_step l s = line_by (call_of l) s
 
 -- what the code answers, as the rules say it
 abbrev pub spoken : Tabled ℕ → Said
-spoken r = record { reply = reply_to r.answer; state = view r.table }
+spoken r = record { reply = coded r.answer; state = view r.table }

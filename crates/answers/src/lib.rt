@@ -1,5 +1,5 @@
 // The answers of the change log: a `Result` of a value or a refusal, and what document 01 tells of it in numbers. Which call gives which
-// answer is crate changes' matter; the table answers with some of them too.
+// answer is crate changes' matter; the table answers with some of them too. The functions carry document 01's words to the library's.
 #![tactic(auto)]
 
 ghost use Rattle.std.specs.Prelude.{◌≡◌};
@@ -31,11 +31,11 @@ pub fn is_yes(told: Result<bool, Refusal>) -> bool
     told.unwrap_or(false)
 }
 
-// The identity that was answered; 0 where it is a refusal.
-pub fn value(mark: Result<u64, Refusal>) -> u64
-    ensures { result ≡ mark_value mark }
+// Document 01's value of an answer: the number that is told, 0 where it is a refusal.
+pub fn value(answer: Result<u64, Refusal>) -> u64
+    ensures { result ≡ mark_value answer }
 {
-    mark.unwrap_or(0)
+    answer.unwrap_or(0)
 }
 
 // Document 01's value of a yes or no: 1 for yes, 0 for no.

@@ -14,7 +14,8 @@ pub const MOST_BYTES: usize = 96;
 pub const MOST_LINES: u64 = 1_000_000;
 
 // The line that is being read: how many of its bytes are held, whether it is bad already, whether its last byte was a
-// CR that may begin its end. `number` lines have ended before it, and reading stops when there are `most`.
+// CR that may begin its end. `number` lines have ended before it, and reading stops when there are `most`. A bad line may end in a CR too,
+// so that the two are flags; the bytes are in the lent buffer, since there is no heap.
 #[derive(Clone, Copy)]
 pub struct Reading {
     pub most: u64,

@@ -30,6 +30,7 @@ impl Instant {
         self.ms.checked_add(u64::from(secs) * 1000).map(Instant::at)
     }
 
+    // The later one. A method of the type, since the contract names `later_of`.
     pub fn max(self, other: Instant) -> Self
         ensures { result ≡ later_of self other }
     {

@@ -5,7 +5,7 @@
 ghost use Rattle.std.specs.Prelude.{◌≡◌};
 ghost use Rattle.lent.specs.Lent.{lent_answer, lent, lent_note};
 
-use answers::Entered;
+use answers::{Entered, code, value};
 use changes::ChangedAttrs;
 use refusal::Refusal;
 
@@ -21,15 +21,9 @@ impl From<Result<Entered, Refusal>> for LentAnswer {
     ghost from_gives = { λ answer r. r ≡ lent_answer answer };
 
     fn from(answer: Result<Entered, Refusal>) -> Self {
-        match answer {
-            Ok(entered) => LentAnswer {
-                identity: entered.identity,
-                code: 0,
-            },
-            Err(why) => LentAnswer {
-                identity: 0,
-                code: why.number(),
-            },
+        LentAnswer {
+            identity: value(answer.map(|entered| entered.identity)),
+            code: code(answer),
         }
     }
 }

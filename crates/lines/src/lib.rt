@@ -113,7 +113,7 @@ fn kind_of(s: &[u8]) -> Option<Kind>
     KINDS.iter().copied().find(|kind| starts(s, word_of(*kind)))
 }
 
-// Whether `s` begins with `word`.
+// Whether `s` begins with `word`, by document 01's word for it.
 pub fn starts(s: &[u8], word: &[u8]) -> bool
     ensures { result ≡ begins word.now s.now }
 {

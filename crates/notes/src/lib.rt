@@ -8,7 +8,7 @@ ghost use Rattle.lists.specs.Search.{count};
 ghost use Rattle.lists.specs.Removal.{sweep};
 ghost use Rattle.entries.specs.declared.ChangedAttr.{ChangedAttr};
 ghost use Rattle.entries.specs.Paths.{blank, all_wild, with_identity, under, holds};
-ghost use Rattle.notes.specs.Notes.{newest, placed, group_of, larger, largest, folded, crowded, entered};
+ghost use Rattle.notes.specs.Notes.{placed, group_of, larger, largest, folded, crowded, entered};
 ghost use Rattle.notes.specs.Places.{listed, held_as, any_held, newest_held, held_without, held_after};
 
 use entries::{ChangedAttr, Level, Rule};
@@ -117,7 +117,7 @@ impl Entries {
     }
 
     // The note into a full array: the largest group of the finest level that has one becomes one entry, and there is room. Without a
-    // group one entry says that everything has changed.
+    // group one entry says that everything has changed. The definition has a case for each of the two levels, and so has this.
     fn promote_and_insert(&mut self, new: ChangedAttr)
         ensures { self.new ≡ crowded new self.old }
     {
@@ -165,7 +165,7 @@ impl Entries {
         self.len = sweep(&mut self.places[..len], |x| rule.meets(*x));
     }
 
-    // The entry takes the identity.
+    // The entry takes the identity. What a reborrow of the places tells of the store is what the proof cites.
     fn refresh(&mut self, at: usize, identity: u64)
         requires { at < length self.old }
         ensures { self.new ≡ set self.old at (with_identity identity (get_or self.old at blank)) }
@@ -195,7 +195,7 @@ impl Entries {
     }
 }
 
-// A coarser entry, and how many entries it covers. One of size 0 or 1 stands for no group: the definitions of a fold compare sizes.
+// A coarser entry, and how many entries it covers. One of size 0 or 1 stands for no group: `larger` and `largest` compare sizes.
 #[derive(Clone, Copy)]
 pub struct Group {
     pub by: ChangedAttr,
@@ -224,7 +224,7 @@ fn tally(entries: &[ChangedAttr], rule: Rule) -> usize
     entries.iter().filter(|x| rule.meets(**x)).count()
 }
 
-// The greatest identity of the entries that meet the rule, or 0.
+// The greatest identity of the entries that meet the rule, or 0, in the words of its chain; `newest_is` leads to document 01's.
 fn newest_of(entries: &[ChangedAttr], rule: Rule) -> u64
     ensures { result ≡ fold max 0 (map (λ (x : ChangedAttr). x.identity) (filter (holds rule) entries.now)) }
 {

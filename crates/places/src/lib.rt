@@ -1,6 +1,6 @@
-// The table of subscriptions as it lies in memory: document 01, "Table". Eighty places in one array: the stored ones in front, in their order, the
-// open ones at the far end, the newest first. Here is what a call answers and what it leaves, place by place in specs/, and that this is the
-// machine's step at the state that the table stands for, in proofs/. No code: that is crate table's.
+// The table of subscriptions as it lies in memory: document 01, "Table". Eighty places in one array: the stored ones in front, in their
+// order, the open ones at the far end, the newest first. Here is what a call answers and what it leaves, place by place in specs/, and that
+// this is the machine's step at the state that the table stands for, in proofs/. No code: that is crate table's.
 #![tactic(auto)]
 
 use changes::ChangedAttrs;
@@ -8,7 +8,8 @@ use subscription::Subscription;
 
 #[derive(Clone, Copy, PartialEq, Eq, Debug)]
 pub struct Table {
-    // The stored ones are the first `stored`, the open ones the last `opens`; a place between them is blank.
+    // The stored ones are the first `stored`, the open ones the last `opens`; a place between them is blank. The memory is fixed: the core
+    // has no heap.
     pub places: [Subscription; 80],
     pub log: ChangedAttrs,
     pub stored: usize,
@@ -16,7 +17,7 @@ pub struct Table {
     // The id that the next admission takes.
     pub next: u32,
     pub capacity: u8,
-    // The reason with which the open report was cancelled, 0 for none, as document 01 has it.
+    // The reason with which the open report was cancelled, 0 for none: document 01's number, of which `stays_after` speaks.
     pub cancel: u8,
 }
 

@@ -32,6 +32,7 @@ const CHUNK: usize = 65536;
 const CAPACITY: u8 = 80;
 
 // What goes on from line to line: the table, the line that is being read and its bytes so far, and the answers that wait to be written.
+// The memory is fixed: the core has no heap.
 #[derive(Drop)]
 struct Comparison {
     table: Table,

@@ -8,7 +8,7 @@ pub(crate) const VALUES: usize = 257;
 
 pub(crate) type Reply = Result<Values, Refusal>;
 
-// The first `count` values.
+// The first `count` values. The memory is fixed: the core has no heap.
 #[derive(Clone, Copy)]
 pub(crate) struct Values {
     values: [u64; VALUES],

@@ -82,6 +82,7 @@ fn take_turn(table: &mut Table, at: Settings, outcome: u8) -> Option<u32>
 {
     match table::report(table, at) {
         Ok(Some(handed)) => {
+            // No refusal: who was handed out is open, and the outcomes were tested.
             let _ = table::complete(table, handed.id, outcome);
             Some(handed.id)
         }

@@ -13,14 +13,15 @@ use time::KeepAlive;
 #[derive(Clone, Copy, PartialEq, Eq, Debug)]
 pub struct Subscription {
     pub peer: u64,
-    // When the last report reached the subscriber; the last instant says never, as document 01 has it.
+    // When the last report reached the subscriber; the last instant says never: document 01's, of which `never_reported` speaks.
     pub reported: Instant,
     // Before this a report that failed is not tried again.
     pub retry: Instant,
     // The watermark and the event number that the subscriber has been told.
     pub seen: u64,
     pub heard: u64,
-    // The watermark, the event number and the instant with which its open report or priming opened; blank while it is stored.
+    // The watermark, the event number and the instant with which its open report or priming opened; blank while it is stored, and fields of
+    // their own, as document 01's records have them.
     pub mark: u64,
     pub events: u64,
     pub opened: Instant,
@@ -55,7 +56,7 @@ pub struct Settings {
     pub all: bool,
 }
 
-// Outcomes of a report, by document 01's numbers. No enum, since a table takes every u8 for an outcome and refuses those that are none.
+// Outcomes of a report, by document 01's numbers. No enum, since `complete` takes every u8 for an outcome and refuses those that are none.
 pub const SENT: u8 = 0;
 
 pub const UNSENT: u8 = 1;

@@ -1,4 +1,5 @@
-// Swap removal in the places of a slice, by a test: the last one fills each hole and is looked at next. It knows nothing of what stands there.
+// Swap removal in the places of a slice, by a test: the last one fills each hole and is looked at next. What stands there is not known
+// here.
 #![tactic(auto)]
 
 ghost use Rattle.std.specs.Prelude.{◌≡◌, Bool, take, length, ◌≤◌};

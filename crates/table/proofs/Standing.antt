@@ -11,7 +11,7 @@ use Rattle.rules.specs.Machine.{Objection, first_of, objections}
 use Rattle.rules.proofs.Clauses.{first_none}
 use Rattle.rules.specs.Calls.{Op}
 use Rattle.places.proofs.Refusing.{kept_counts, past_kept, unkept}
-use Rattle.table.specs.Scans.{unless, well_kept}
+use Rattle.table.specs.Scans.{verdict_of, well_kept}
 
 module _ (t : Table) where
   -- a table whose test passed is well kept
@@ -45,12 +45,12 @@ module _ (t : Table) {u : ⊤} (e : well_kept t ≡ Ok u) where
   unrefused op f = refused op f ∙ first_none
 
 -- nothing stands in the way
-pub clear : (o : Option Refusal) {u : ⊤} → unless o ≡ Ok u → o ≡ None
+pub clear : (o : Option Refusal) {u : ⊤} → verdict_of o ≡ Ok u → o ≡ None
 clear None e = refl
 clear (Some why) e = absurd (let z : ◌≡◌ {A = ℕ} 0 1 = cc in omega arith)
 
 -- or a refusal does
-pub stands : (o : Option Refusal) {why : Refusal} → unless o ≡ Err why → o ≡ Some why
+pub stands : (o : Option Refusal) {why : Refusal} → verdict_of o ≡ Err why → o ≡ Some why
 stands None e = absurd (let z : ◌≡◌ {A = ℕ} 0 1 = cc in omega arith)
 stands (Some w) e = cc
 

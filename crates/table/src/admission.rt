@@ -5,7 +5,7 @@ ghost use Rattle.rules.specs.States.{has_id};
 ghost use Rattle.rules.specs.Machine.{first_of, next_id_after};
 ghost use Rattle.places.specs.Views.{stored_of, opens_of};
 ghost use Rattle.places.specs.Calls.{admit_objections};
-ghost use Rattle.table.specs.Scans.{unless};
+ghost use Rattle.table.specs.Scans.{verdict_of};
 
 use super::scans::{any_with_id, open, stored};
 use places::Table;
@@ -16,7 +16,7 @@ use subscription::Request;
 // takes tables that are not well kept and tests them.
 pub(crate) fn admits(table: &Table, request: Request, id: u32) -> Result<(), Refusal>
     requires { table.now.stored + table.now.opens ≤ 80 }
-    ensures { result ≡ unless (first_of (admit_objections table.now request id)) }
+    ensures { result ≡ verdict_of (first_of (admit_objections table.now request id)) }
 {
     if request.fabric == 0 {
         return Err(Refusal::BadArgument);

@@ -1,4 +1,4 @@
-// The well-kept test's parts: the counts, one pass over the live ones, and the cancel reason.
+// The well-kept test's parts: the counts, what is asked of the live ones, and the cancel reason.
 ghost use Rattle.std.specs.Prelude.{◌≡◌, ◌+◌, ◌≤◌, ◌&&◌, ◌||◌, ◌==◌, ◌++◌, nat_le, nat_lt, map, drop, length};
 ghost use Rattle.std.specs.List.{list_any};
 ghost use Rattle.lists.specs.Search.{count};
@@ -20,23 +20,23 @@ pub(crate) fn is_sound(stored: &[Subscription], open: &[Subscription], cancel: u
         && (!lives.orphan && cancel_fits(lives.reports, cancel))
 }
 
-// What one pass over the live ones finds.
+// What is asked of the live ones. The memory of the ids is fixed: the core has no heap.
 #[derive(Clone, Copy)]
-struct Pass {
+struct Live {
     ids: [u32; PLACES],
     orphan: bool,
     reports: usize,
 }
 
 // The ids of the live ones, whether one has no fabric, and how many of the open ones are reports.
-fn lives(stored: &[Subscription], open: &[Subscription]) -> Pass
+fn lives(stored: &[Subscription], open: &[Subscription]) -> Live
     requires { length stored.now + length open.now ≤ 80 }
     ensures { Lived stored.now open.now result }
 {
     let mut ids = [0; PLACES];
     copy_ids(&mut ids, stored);
     copy_ids(&mut ids[stored.len()..], open);
-    Pass {
+    Live {
         ids,
         orphan: any_orphan(stored) || any_orphan(open),
         reports: count_reports(open),

@@ -37,7 +37,7 @@ pub(crate) const PLACES: usize = 80;
 // The reason with which clearing cancels the open report.
 const CLEARED: u8 = 255;
 
-// A fresh table. A capacity that is none makes a table that every call refuses.
+// A fresh table. A capacity that is none makes a table too, which every call refuses: `new_table`, `refused_unkept`.
 pub fn new(capacity: u8) -> (Result<(), Refusal>, Table)
     ensures { tabled result.0 result.1 ≡ new_table capacity }
 {
@@ -220,7 +220,8 @@ pub fn next_keep_alive_at(table: &Table) -> Result<Option<Instant>, Refusal>
     Ok(Some(least_due(stored(table))))
 }
 
-// Figures for the status page: counted places, the stored of a fabric (0 where none is asked), and the ids given so far.
+// Figures for the status page: counted places, the stored of a fabric, and the ids given so far. Fabric 0 asks for none, as document 01
+// has it.
 pub fn load_stats(table: &Table, fabric: u8) -> Result<Load, Refusal>
     ensures { result ≡ load_of table.now fabric }
 {

@@ -1,4 +1,5 @@
 // The stored and the open ones as slices of the table, and what a call asks of them: is there one, where is the first, how many, the least.
+// Each is the library's word with a test or a measure of document 01's, which its contract names.
 ghost use Rattle.std.specs.Prelude.{◌≡◌, length};
 ghost use Rattle.std.specs.List.{find, list_any, position};
 ghost use Rattle.lists.specs.Search.{count, least_by};

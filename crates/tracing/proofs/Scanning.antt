@@ -24,7 +24,7 @@ use Rattle.lines.specs.declared.Line.{Line}
 use Rattle.printing.specs.Answers.{answer_of, put_of, answer_room}
 use Rattle.places.specs.declared.Table.{Table}
 use Rattle.places.specs.Calls.{Tabled}
-use Rattle.answering.specs.Replies.{reply_to}
+use Rattle.answering.specs.Replies.{coded}
 use Rattle.answering.specs.Answers.{answer_in}
 use Rattle.tracing.specs.declared.Session.{Session}
 use Rattle.tracing.specs.Runs.{Work, session_of, begun, line_found, moved, text_of, answered_to, told, byte_in, run_from, finish_of}
@@ -157,7 +157,7 @@ module _ (t : Table) (r : Reading) (held out : List ℕ) (used wrote : ℕ) (s :
   pub turn_answered : ends_of u.found ≡ true → (l : Line) (a : Tabled ℕ) (w : ℕ) (out' : List ℕ)
       → l ≡ line_found held'' u.found
       → a ≡ answer_in t l
-      → (w, out') ≡ put_of answer_room out wrote (answer_of u.reading.number (reply_to a.answer).code (reply_to a.answer).value)
+      → (w, out') ≡ put_of answer_room out wrote (answer_of u.reading.number (coded a.answer).code (coded a.answer).value)
       → run_from (standing t r held out used wrote) (drop used s)
       ≡ run_from (standing a.table u.reading held'' out' (used + u.used) w) (drop (used + u.used) s)
   unfolding answered_to
@@ -167,9 +167,9 @@ module _ (t : Table) (r : Reading) (held out : List ℕ) (used wrote : ℕ) (s :
       (ended after u.found e
       ∙ ap (answered_to after) (sym line)
       ∙ ap (λ (b : Tabled ℕ). standing b.table u.reading held''
-      (put_of answer_room out wrote (answer_of u.reading.number (reply_to b.answer).code (reply_to b.answer).value)).1
+      (put_of answer_room out wrote (answer_of u.reading.number (coded b.answer).code (coded b.answer).value)).1
       (used + u.used)
-      (put_of answer_room out wrote (answer_of u.reading.number (reply_to b.answer).code (reply_to b.answer).value)).0) (sym answer)
+      (put_of answer_room out wrote (answer_of u.reading.number (coded b.answer).code (coded b.answer).value)).0) (sym answer)
       ∙ ap (λ (p : ℕ × List ℕ). standing a.table u.reading held'' p.1 (used + u.used) p.0) (sym put))
 
 -- the input's end
@@ -186,11 +186,11 @@ module _ (x : Session) (held out : List ℕ) (u : Stepped) (close : u ≡ close_
   pub finish_answered : ends_of u.found ≡ true → (l : Line) (a : Tabled ℕ) (w : ℕ) (out' : List ℕ)
       → l ≡ line_found held u.found
       → a ≡ answer_in x.table l
-      → (w, out') ≡ put_of answer_room out 0 (answer_of u.reading.number (reply_to a.answer).code (reply_to a.answer).value)
+      → (w, out') ≡ put_of answer_room out 0 (answer_of u.reading.number (coded a.answer).code (coded a.answer).value)
       → (w, out') ≡ finish_of x held out
   unfolding finish_of answered_to
   finish_answered e l a w out' line answer put =
       put
-      ∙ ap (λ (b : Tabled ℕ). put_of answer_room out 0 (answer_of u.reading.number (reply_to b.answer).code (reply_to b.answer).value)) (answer ∙ ap (answer_in x.table) line)
+      ∙ ap (λ (b : Tabled ℕ). put_of answer_room out 0 (answer_of u.reading.number (coded b.answer).code (coded b.answer).value)) (answer ∙ ap (answer_in x.table) line)
       ∙ ap (λ (v : Stepped). put_of answer_room out 0 (text_of x.table v.reading.number (line_found held v.found))) close
       ∙ sym (ap (λ (y : Work). (y.wrote, y.out)) (ended last (close_of x.reading).found (ap (λ (v : Stepped). ends_of v.found) (sym close) ∙ e)))

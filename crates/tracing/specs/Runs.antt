@@ -13,7 +13,7 @@ use Rattle.printing.specs.Answers.{answer_of, put_of, answer_room}
 use Rattle.places.specs.declared.Table.{Table}
 use Rattle.places.specs.Calls.{new_table}
 use Rattle.answering.specs.Answers.{answer_in}
-use Rattle.answering.specs.Replies.{reply_to}
+use Rattle.answering.specs.Replies.{coded}
 use Rattle.tracing.specs.declared.Session.{Session}
 use Rattle.tracing.specs.declared.Ran.{Ran}
 
@@ -54,7 +54,7 @@ moved x r held n =
 
 -- the text of a line's answer
 abbrev pub text_of : Table → ℕ → Line → List ℕ
-text_of t number l = answer_of number (reply_to (answer_in t l).answer).code (reply_to (answer_in t l).answer).value
+text_of t number l = answer_of number (coded (answer_in t l).answer).code (coded (answer_in t l).answer).value
 
 -- the line is answered: the table is touched, and the answer put behind what is written
 unfoldable pub answered_to : Work → Line → Work
