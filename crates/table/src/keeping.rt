@@ -11,12 +11,12 @@ use subscription::Subscription;
 
 // Whether the live ones have different ids and a fabric each, at most one report is open, and a cancel reason is there only with it. That
 // there are at most eighty is tested before, and no fact of two slices.
-pub(crate) fn is_sound(stored: &[Subscription], open: &[Subscription], cancel: u8) -> bool
-    requires { length stored.now + length open.now ≤ 80 }
-    ensures { result ≡ sound stored.now open.now cancel }
+pub(crate) fn is_sound(stored: &[Subscription], opens: &[Subscription], cancel: u8) -> bool
+    requires { length stored.now + length opens.now ≤ 80 }
+    ensures { result ≡ sound stored.now opens.now cancel }
 {
-    let lives = lives(stored, open);
-    distinct::all_differ(&lives.ids[..stored.len() + open.len()])
+    let lives = lives(stored, opens);
+    distinct::all_differ(&lives.ids[..stored.len() + opens.len()])
         && (!lives.orphan && cancel_fits(lives.reports, cancel))
 }
 
@@ -29,17 +29,17 @@ struct Live {
 }
 
 // The ids of the live ones, whether one has no fabric, and how many of the open ones are reports.
-fn lives(stored: &[Subscription], open: &[Subscription]) -> Live
-    requires { length stored.now + length open.now ≤ 80 }
-    ensures { Lived stored.now open.now result }
+fn lives(stored: &[Subscription], opens: &[Subscription]) -> Live
+    requires { length stored.now + length opens.now ≤ 80 }
+    ensures { Lived stored.now opens.now result }
 {
     let mut ids = [0; PLACES];
     copy_ids(&mut ids, stored);
-    copy_ids(&mut ids[stored.len()..], open);
+    copy_ids(&mut ids[stored.len()..], opens);
     Live {
         ids,
-        orphan: any_orphan(stored) || any_orphan(open),
-        reports: count_reports(open),
+        orphan: any_orphan(stored) || any_orphan(opens),
+        reports: count_reports(opens),
     }
 }
 

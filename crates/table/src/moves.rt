@@ -1,7 +1,7 @@
 // What calls do to the table: one is stored, opens, is handed out or ends; the stored ones that a choice takes go. The counts are asked
 // for, and no invariant of `Table`, since calls take tables that are not well kept; what stands here works behind their test. That there
 // are eighty places is asked too: of an array behind a reference to another crate's type the check tells no length, unless it is read.
-ghost use Rattle.std.specs.Prelude.{◌≡◌, ◌+◌, ◌-◌, ◌<◌, ◌≤◌, not, ◌&&◌, if◌then◌else◌, ◌==◌, length, Ok, Some};
+ghost use Rattle.std.specs.Prelude.{◌≡◌, ◌+◌, ◌-◌, ◌<◌, ◌≤◌, if◌then◌else◌, length, Ok, Some};
 ghost use Rattle.choices.specs.Choices.{chosen};
 ghost use Rattle.changes.specs.Logs.{watermark_of};
 ghost use Rattle.places.specs.Moves.{stored_last, opened_up, swept_out, emptied};

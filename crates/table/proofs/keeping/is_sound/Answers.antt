@@ -18,10 +18,10 @@ differ_is stored opens ids e f =
 
 pub returns-then-not-lives : goal.returns-then-not-lives
 returns-then-not-lives c =
-    let d = differ_is c.args.stored.now c.args.open.now c.lives-lives.result.ids c.lives-lives.ensures.ids_are c.all_differ.ensures in
+    let d = differ_is c.args.stored.now c.args.opens.now c.lives-lives.result.ids c.lives-lives.ensures.ids_are c.all_differ.ensures in
     rw (sym d ∙ c.if-all_differ.true, sym c.lives-lives.ensures.orphan_is ∙ c.if-not-lives.true, ← c.lives-lives.ensures.reports_are) c.cancel_fits.ensures
 
 pub returns-else-all_differ : goal.returns-else-all_differ
 returns-else-all_differ c =
-    let d = differ_is c.args.stored.now c.args.open.now c.lives-lives.result.ids c.lives-lives.ensures.ids_are c.all_differ.ensures in
+    let d = differ_is c.args.stored.now c.args.opens.now c.lives-lives.result.ids c.lives-lives.ensures.ids_are c.all_differ.ensures in
     rw (sym d ∙ c.if-all_differ.false) c.if-all_differ.false

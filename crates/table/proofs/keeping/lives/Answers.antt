@@ -13,7 +13,7 @@ use Rattle.table.proofs.keeping.lives.Goals.{then-any_orphan, else-any_orphan}
 pub returns : goal.returns
 returns c =
     let s = c.args.stored.now in
-    let o = c.args.open.now in
+    let o = c.args.opens.now in
     let in_front : c.any_orphan.result ≡ some fabric_zero s = asked fabric_zero refl c.any_orphan.ensures in
     record {
       long = same_len_mid (length s) (80 - length s) c.copy_ids.new.ids c.copy_ids-2.new.ids c.copy_ids-2.auto.ids ∙ c.copy_ids.auto.ids;
