@@ -1,22 +1,16 @@
--- The code and the value of each answer of the table, as document 01 has them, "Trace lines": "Values: capacity; id; identity; id or 0 for
--- Nothing; 1 kept or 0; 1 or 0; instant." Assumes nothing.
-use Rattle.std.specs.Prelude.{ℕ}
-use Rattle.lists.specs.Search.{one}
+-- The code and the value of a line's answer, as document 01 has them, "Trace lines"; and the values that a call's answer comes to.
+-- Assumes nothing.
+use Rattle.std.specs.Prelude.{ℕ, Option, Some, None, Result, Ok, Err}
 use Rattle.refusal.specs.declared.Refusal.{Refusal}
 use Rattle.refusal.specs.Numbers.{number_of}
-use Rattle.answers.specs.declared.Told.{Told}
-use Rattle.places.specs.declared.Admission.{Admission}
-use Rattle.places.specs.declared.Completion.{Completion}
-use Rattle.places.specs.declared.HandOut.{HandOut}
-use Rattle.places.specs.declared.Hearing.{Hearing}
-use Rattle.places.specs.declared.Moment.{Moment}
-use Rattle.answers.specs.declared.Told.TheVariants as is
-use Rattle.places.specs.declared.Admission.TheVariants as admission
-use Rattle.places.specs.declared.Completion.TheVariants as completion
-use Rattle.places.specs.declared.HandOut.TheVariants as hand_out
-use Rattle.places.specs.declared.Hearing.TheVariants as hearing
-use Rattle.places.specs.declared.Moment.TheVariants as moment
-use Rattle.answering.specs.declared.Reply.{Reply}
+use Rattle.answers.specs.Numbers.{answer_number, mark_value}
+use Rattle.places.specs.declared.Handed.{Handed}
+use Rattle.places.specs.Calls.{Tabled, tabled}
+
+-- a line's code and value
+pub record Reply : Type 0 where
+  pub code : ℕ
+  pub value : ℕ
 
 -- not refused: code 0 and a value
 abbrev pub told : ℕ → Reply
@@ -26,33 +20,20 @@ told value = record { code = 0; value = value }
 abbrev pub refused_with : Refusal → Reply
 refused_with why = record { code = number_of why; value = 0 }
 
--- add: "id"
-abbrev pub admission_reply : Admission → Reply
-admission_reply (admission.Id id) = told id
-admission_reply (admission.Refused why) = refused_with why
+-- an answer's code and value
+abbrev pub coded : Result ℕ Refusal → Reply
+coded answer = record { code = answer_number answer; value = mark_value answer }
 
--- note: "identity"
-abbrev pub hearing_reply : Hearing → Reply
-hearing_reply (hearing.Entered x) = told x.identity
-hearing_reply (hearing.Refused why) = refused_with why
+-- an answer with the value that f gives of what was answered
+abbrev pub valued : {A : Type 0} → (A → ℕ) → Result A Refusal → Result ℕ Refusal
+valued f (Ok x) = Ok (f x)
+valued f (Err why) = Err why
+
+-- the same of a call that changes the table
+abbrev pub valued_in : {A : Type 0} → (A → ℕ) → Tabled A → Tabled ℕ
+valued_in f r = tabled (valued f r.answer) r.table
 
 -- report: "id or 0 for Nothing"
-abbrev pub hand_out_reply : HandOut → Reply
-hand_out_reply (hand_out.To x) = told x.id
-hand_out_reply hand_out.Nothing = told 0
-hand_out_reply (hand_out.Refused why) = refused_with why
-
--- done: "1 kept or 0"
-abbrev pub completion_reply : Completion → Reply
-completion_reply (completion.Ended x) = told (one x.kept)
-completion_reply (completion.Refused why) = refused_with why
-
--- attr: "1 or 0"
-abbrev pub told_reply : Told → Reply
-told_reply (is.Is b) = told (one b)
-told_reply (is.Refused why) = refused_with why
-
--- wake: "instant"
-abbrev pub moment_reply : Moment → Reply
-moment_reply (moment.At at) = told at.ms
-moment_reply (moment.Refused why) = refused_with why
+abbrev pub handed_value : Option Handed → ℕ
+handed_value (Some x) = x.id
+handed_value None = 0

@@ -1,16 +1,12 @@
--- A log by its entries, and what a call answers: a log that is not well kept is refused and handed back, another is served.
+-- A log by its entries, and what a call answers: a log that is not well kept is refused and left as it was, another is served.
 -- Assumes nothing.
-use Rattle.std.proofs.Common.{◌≡◌, ℕ, ◌<◌, ◌≤◌, true, false, not, List, [], length, sym, refl, ap, ◌∙◌, arith, length-take, ne_eqb, le-leb}
+use Rattle.std.proofs.Common.{Ok, Err, ◌≡◌, ℕ, ◌<◌, ◌≤◌, true, false, not, List, [], length, sym, refl, ap, ◌∙◌, arith, length-take, ne_eqb, le-leb}
 use lib.Arith.{lt_of_le-ne}
 use Rattle.refusal.specs.declared.Refusal.TheVariants.{NotWellKept}
 use Rattle.entries.specs.declared.ChangedAttr.{ChangedAttr}
 use Rattle.changes.specs.declared.ChangedAttrs.{ChangedAttrs}
-use Rattle.answers.specs.declared.NoteAnswer.TheVariants as note
-use Rattle.answers.specs.declared.Change.TheVariants as change
-use Rattle.answers.specs.declared.Told.TheVariants as told
-use Rattle.answers.specs.declared.Mark.TheVariants as mark
 use Rattle.notes.specs.Places.{held_as}
-use Rattle.changes.specs.Logs.{entries_of, holding, empty_log, kept, fresh_log, watermark_of, after_note, noted, after_purge, purged, cleared, marked, newest_of, newest_mark, any_since, changed_since, any_told, path_told}
+use Rattle.changes.specs.Logs.{entries_of, holding, empty_log, kept, fresh_log, watermark_of, logged, after_note, noted, after_purge, purged, cleared, marked, newest_of, newest_mark, any_since, changed_since, any_told, path_told}
 use Rattle.changes.specs.Reach.{Tidy}
 use Rattle.lists.proofs.Bools.{and_true}
 use Rattle.changes.proofs.Cases.{kept_fits, kept_next}
@@ -59,58 +55,58 @@ watermark_below g h =
     let on : 0 < g.next = lt_of_le-ne (omega arith) (λ z. kept_next g h (sym z)) in
     omega arith
 
--- ---- the answers: a log that is not well kept is refused and handed back, another is served
+-- ---- the answers: a log that is not well kept is refused and left as it was, another is served
 
 module _ (g : ChangedAttrs) (h : kept g ≡ false) where
-  pub note_refused : (e c a : ℕ) → noted g e c a ≡ record { answer = note.Refused NotWellKept; log = g }
+  pub note_refused : (e c a : ℕ) → noted g e c a ≡ logged (Err NotWellKept) g
   unfolding noted
   note_refused e c a = rw (h, noted)
 
-  pub purge_refused : (t : ℕ) → purged g t ≡ record { answer = change.Refused NotWellKept; log = g }
+  pub purge_refused : (t : ℕ) → purged g t ≡ logged (Err NotWellKept) g
   unfolding purged
   purge_refused t = rw (h, purged)
 
-  pub clear_refused : cleared g ≡ record { answer = change.Refused NotWellKept; log = g }
+  pub clear_refused : cleared g ≡ logged (Err NotWellKept) g
   unfolding cleared
   clear_refused = rw (h, cleared)
 
-  pub mark_refused : marked g ≡ mark.Refused NotWellKept
+  pub mark_refused : marked g ≡ Err NotWellKept
   unfolding marked
   mark_refused = rw (h, marked)
 
-  pub any_refused : (s : ℕ) → any_told g s ≡ told.Refused NotWellKept
+  pub any_refused : (s : ℕ) → any_told g s ≡ Err NotWellKept
   unfolding any_told
   any_refused s = rw (h, any_told)
 
-  pub path_refused : (e c a s : ℕ) → path_told g e c a s ≡ told.Refused NotWellKept
+  pub path_refused : (e c a s : ℕ) → path_told g e c a s ≡ Err NotWellKept
   unfolding path_told
   path_refused e c a s = rw (h, path_told)
 
 module _ (g : ChangedAttrs) (h : kept g ≡ true) where
-  pub note_answer : (e c a : ℕ) → noted g e c a ≡ record { answer = note.Entered (record { identity = g.next }); log = after_note g e c a }
+  pub note_answer : (e c a : ℕ) → noted g e c a ≡ logged (Ok (record { identity = g.next })) (after_note g e c a)
   unfolding noted
   note_answer e c a = rw (h, noted)
 
-  pub purge_answer : (t : ℕ) → purged g t ≡ record { answer = change.Done; log = after_purge g t }
+  pub purge_answer : (t : ℕ) → purged g t ≡ logged (Ok tt) (after_purge g t)
   unfolding purged
   purge_answer t = rw (h, purged)
 
-  pub clear_answer : cleared g ≡ record { answer = change.Done; log = holding [] g.next }
+  pub clear_answer : cleared g ≡ logged (Ok tt) (holding [] g.next)
   unfolding cleared
   clear_answer = rw (h, cleared) (rw (empty_held g.next))
 
-  pub mark_answer : marked g ≡ mark.At (watermark_of g)
+  pub mark_answer : marked g ≡ Ok (watermark_of g)
   unfolding marked
   mark_answer = rw (h, marked)
 
-  pub newest_answer : newest_mark g ≡ mark.At (newest_of g)
+  pub newest_answer : newest_mark g ≡ Ok (newest_of g)
   unfolding newest_mark
   newest_answer = rw (h, newest_mark)
 
-  pub any_answer : (s : ℕ) → any_told g s ≡ told.Is (any_since g s)
+  pub any_answer : (s : ℕ) → any_told g s ≡ Ok (any_since g s)
   unfolding any_told
   any_answer s = rw (h, any_told)
 
-  pub path_answer : (e c a s : ℕ) → path_told g e c a s ≡ told.Is (changed_since g e c a s)
+  pub path_answer : (e c a s : ℕ) → path_told g e c a s ≡ Ok (changed_since g e c a s)
   unfolding path_told
   path_answer e c a s = rw (h, path_told)

@@ -4,11 +4,11 @@ use Rattle.std.proofs.Common.{◌≡◌, ℕ, cond}
 use Rattle.changes.specs.declared.ChangedAttrs.{ChangedAttrs}
 use Rattle.lists.specs.Search.{one}
 use Rattle.changes.specs.Logs.{kept, watermark_of, noted, purged, cleared, marked, any_since, changed_since, any_told, path_told}
-use Rattle.answers.specs.Numbers.{note_number, note_value, change_number, told_number, told_value, mark_number, mark_value}
+use Rattle.answers.specs.Numbers.{answer_number, note_value, told_value, mark_value}
 use Rattle.lists.proofs.Bools.{split}
 
 module _ (g : ChangedAttrs) where
-  pub note_number_lem : (e c a : ℕ) → note_number (noted g e c a).answer ≡ cond (kept g) 0 7
+  pub note_number_lem : (e c a : ℕ) → answer_number (noted g e c a).answer ≡ cond (kept g) 0 7
   unfolding noted
   note_number_lem e c a = split (kept g) (λ t. rw (t, noted)) (λ t. rw (t, noted))
 
@@ -16,15 +16,15 @@ module _ (g : ChangedAttrs) where
   unfolding noted
   note_value_lem e c a = split (kept g) (λ t. rw (t, noted)) (λ t. rw (t, noted))
 
-  pub purge_number : (threshold : ℕ) → change_number (purged g threshold).answer ≡ cond (kept g) 0 7
+  pub purge_number : (threshold : ℕ) → answer_number (purged g threshold).answer ≡ cond (kept g) 0 7
   unfolding purged
   purge_number threshold = split (kept g) (λ t. rw (t, purged)) (λ t. rw (t, purged))
 
-  pub clear_number : change_number (cleared g).answer ≡ cond (kept g) 0 7
+  pub clear_number : answer_number (cleared g).answer ≡ cond (kept g) 0 7
   unfolding cleared
   clear_number = split (kept g) (λ t. rw (t, cleared)) (λ t. rw (t, cleared))
 
-  pub mark_number_lem : mark_number (marked g) ≡ cond (kept g) 0 7
+  pub mark_number_lem : answer_number (marked g) ≡ cond (kept g) 0 7
   unfolding marked
   mark_number_lem = split (kept g) (λ t. rw (t, marked)) (λ t. rw (t, marked))
 
@@ -32,7 +32,7 @@ module _ (g : ChangedAttrs) where
   unfolding marked
   mark_value_lem = split (kept g) (λ t. rw (t, marked)) (λ t. rw (t, marked))
 
-  pub any_number : (s : ℕ) → told_number (any_told g s) ≡ cond (kept g) 0 7
+  pub any_number : (s : ℕ) → answer_number (any_told g s) ≡ cond (kept g) 0 7
   unfolding any_told
   any_number s = split (kept g) (λ t. rw (t, any_told)) (λ t. rw (t, any_told))
 
@@ -40,7 +40,7 @@ module _ (g : ChangedAttrs) where
   unfolding any_told
   any_value s = split (kept g) (λ t. rw (t, any_told)) (λ t. rw (t, any_told))
 
-  pub path_number : (e c a s : ℕ) → told_number (path_told g e c a s) ≡ cond (kept g) 0 7
+  pub path_number : (e c a s : ℕ) → answer_number (path_told g e c a s) ≡ cond (kept g) 0 7
   unfolding path_told
   path_number e c a s = split (kept g) (λ t. rw (t, path_told)) (λ t. rw (t, path_told))
 

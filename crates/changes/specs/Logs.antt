@@ -1,17 +1,11 @@
 -- The change log as the code holds it, and every public call's answer, as document 01 has it, "Change log" and "Refusal numbers".
 -- Assumes nothing.
-use Rattle.std.specs.Prelude.{ℕ, ◌+◌, ◌-◌, Bool, cond, not, ◌&&◌, List, replicate, ◌==◌, nat_le}
+use Rattle.std.specs.Prelude.{ℕ, ◌+◌, ◌-◌, Bool, cond, not, ◌&&◌, List, replicate, ◌==◌, nat_le, Result, Ok, Err, ⊤}
+use Rattle.refusal.specs.declared.Refusal.{Refusal}
 use Rattle.refusal.specs.declared.Refusal.TheVariants.{NotWellKept}
+use Rattle.answers.specs.declared.Entered.{Entered}
 use Rattle.entries.specs.declared.ChangedAttr.{ChangedAttr}
 use Rattle.changes.specs.declared.ChangedAttrs.{ChangedAttrs}
-use Rattle.changes.specs.declared.Noted.{Noted}
-use Rattle.changes.specs.declared.Changed.{Changed}
-use Rattle.answers.specs.declared.Told.{Told}
-use Rattle.answers.specs.declared.Mark.{Mark}
-use Rattle.answers.specs.declared.NoteAnswer.TheVariants as note
-use Rattle.answers.specs.declared.Change.TheVariants as change
-use Rattle.answers.specs.declared.Told.TheVariants as told
-use Rattle.answers.specs.declared.Mark.TheVariants as mark
 use Rattle.lists.specs.Search.{some}
 use Rattle.lists.specs.Removal.{sweep}
 use Rattle.entries.specs.Paths.{entry, blank, up_to, above, since}
@@ -54,40 +48,52 @@ note_of g endpoint cluster attr = entry endpoint cluster attr g.next
 abbrev pub after_note : ChangedAttrs → ℕ → ℕ → ℕ → ChangedAttrs
 after_note g endpoint cluster attr = holding (entered (note_of g endpoint cluster attr) (entries_of g)) (identity_after g.next)
 
+-- what a call that changes the log comes to: its answer, or why it is refused, and the log after it
+pub record Logged (A : Type 0) : Type 0 where
+  pub answer : Result A Refusal
+  pub log : ChangedAttrs
+
+abbrev pub logged : {A : Type 0} → Result A Refusal → ChangedAttrs → Logged A
+logged answer log = record { answer = answer; log = log }
+
+-- the log that is not well kept is refused
+unfoldable pub well_kept : ChangedAttrs → Result ⊤ Refusal
+well_kept g = cond (kept g) (Ok tt) (Err NotWellKept)
+
 -- the answer of a note
-unfoldable pub noted : ChangedAttrs → ℕ → ℕ → ℕ → Noted
+unfoldable pub noted : ChangedAttrs → ℕ → ℕ → ℕ → Logged Entered
 noted g endpoint cluster attr =
     cond (kept g)
-    (record { answer = note.Entered (record { identity = g.next }); log = after_note g endpoint cluster attr })
-    (record { answer = note.Refused NotWellKept; log = g })
+    (logged (Ok (record { identity = g.next })) (after_note g endpoint cluster attr))
+    (logged (Err NotWellKept) g)
 
 -- "Purge up to T removes entries with identity ≤ T by swap removal; T = 0 does nothing."
 abbrev pub after_purge : ChangedAttrs → ℕ → ChangedAttrs
 after_purge g t = cond (t == 0) g (holding (sweep (up_to t) (entries_of g)) g.next)
 
 -- the answer of a call that changes the log to h and has nothing to tell
-abbrev pub changed_to : ChangedAttrs → ChangedAttrs → Changed
-changed_to g h = cond (kept g) (record { answer = change.Done; log = h }) (record { answer = change.Refused NotWellKept; log = g })
+abbrev pub changed_to : ChangedAttrs → ChangedAttrs → Logged ⊤
+changed_to g h = cond (kept g) (logged (Ok tt) h) (logged (Err NotWellKept) g)
 
 -- the answer of a purge
-unfoldable pub purged : ChangedAttrs → ℕ → Changed
+unfoldable pub purged : ChangedAttrs → ℕ → Logged ⊤
 purged g t = changed_to g (after_purge g t)
 
 -- the answer of emptying: no entry is left, and identities go on
-unfoldable pub cleared : ChangedAttrs → Changed
+unfoldable pub cleared : ChangedAttrs → Logged ⊤
 cleared g = changed_to g (empty_log g.next)
 
 -- the answer to the watermark
-unfoldable pub marked : ChangedAttrs → Mark
-marked g = cond (kept g) (mark.At (watermark_of g)) (mark.Refused NotWellKept)
+unfoldable pub marked : ChangedAttrs → Result ℕ Refusal
+marked g = cond (kept g) (Ok (watermark_of g)) (Err NotWellKept)
 
 -- the greatest identity that an entry has
 abbrev pub newest_of : ChangedAttrs → ℕ
 newest_of g = newest (above 0) (entries_of g)
 
 -- the answer to it
-unfoldable pub newest_mark : ChangedAttrs → Mark
-newest_mark g = cond (kept g) (mark.At (newest_of g)) (mark.Refused NotWellKept)
+unfoldable pub newest_mark : ChangedAttrs → Result ℕ Refusal
+newest_mark g = cond (kept g) (Ok (newest_of g)) (Err NotWellKept)
 
 -- is there an "entry above its seen watermark"
 abbrev pub any_since : ChangedAttrs → ℕ → Bool
@@ -98,13 +104,13 @@ abbrev pub changed_since : ChangedAttrs → ℕ → ℕ → ℕ → ℕ → Bool
 changed_since g endpoint cluster attr s = some (since (entry endpoint cluster attr s)) (entries_of g)
 
 -- the answer to a question
-abbrev pub told_of : ChangedAttrs → Bool → Told
-told_of g b = cond (kept g) (told.Is b) (told.Refused NotWellKept)
+abbrev pub told_of : ChangedAttrs → Bool → Result Bool Refusal
+told_of g b = cond (kept g) (Ok b) (Err NotWellKept)
 
 -- the answer to "has anything changed since"
-unfoldable pub any_told : ChangedAttrs → ℕ → Told
+unfoldable pub any_told : ChangedAttrs → ℕ → Result Bool Refusal
 any_told g s = told_of g (any_since g s)
 
 -- the answer to "has this path changed since"
-unfoldable pub path_told : ChangedAttrs → ℕ → ℕ → ℕ → ℕ → Told
+unfoldable pub path_told : ChangedAttrs → ℕ → ℕ → ℕ → ℕ → Result Bool Refusal
 path_told g endpoint cluster attr s = told_of g (changed_since g endpoint cluster attr s)

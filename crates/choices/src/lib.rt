@@ -7,8 +7,8 @@ ghost use Rattle.choices.specs.Choices.{chosen};
 use instants::Instant;
 use subscription::Subscription;
 
-// Which subscriptions a removal takes.
-#[derive(Clone, Copy)]
+// Which subscriptions a removal takes. An enum and no closure: document 01 lists them, and a caller hands one over as an argument.
+#[derive(Clone, Copy, PartialEq, Eq, Debug)]
 pub enum Choice {
     All,
     Fabric(u8),
@@ -18,20 +18,16 @@ pub enum Choice {
 }
 
 impl Choice {
+    #[tactic(auto, unfolding(crate::specs::Choices::chosen))]
     pub fn takes(self, s: Subscription) -> bool
         ensures { result ≡ chosen self s }
     {
         match self {
-            Choice::All => true,
-            Choice::Fabric(fabric) => s.fabric == fabric,
-            Choice::Peer(fabric, peer) => {
-                if s.fabric == fabric {
-                    return s.peer == peer;
-                }
-                false
-            }
-            Choice::Id(id) => s.id == id,
-            Choice::ExpiredAt(now) => s.is_expired(now),
+            Self::All => true,
+            Self::Fabric(fabric) => s.fabric == fabric,
+            Self::Peer(fabric, peer) => s.fabric == fabric && s.peer == peer,
+            Self::Id(id) => s.id == id,
+            Self::ExpiredAt(now) => s.is_expired(now),
         }
     }
 }

@@ -14,7 +14,8 @@ pub const MOST_BYTES: usize = 96;
 pub const MOST_LINES: u64 = 1_000_000;
 
 // The line that is being read: how many of its bytes are held, whether it is bad already, whether its last byte was a
-// CR that may begin its end. `number` lines have ended before it, and reading stops when there are `most`.
+// CR that may begin its end. `number` lines have ended before it, and reading stops when there are `most`. A bad line may end in a CR too,
+// so that the two are flags; the bytes are in the lent buffer, since there is no heap.
 #[derive(Clone, Copy)]
 pub struct Reading {
     pub most: u64,
@@ -24,8 +25,8 @@ pub struct Reading {
     pub cr: bool,
 }
 
-// A line that ended: a bad one, or one whose bytes are the first so many that are held.
-#[derive(Clone, Copy)]
+// A line that ended: a bad one, or one whose bytes are the first so many that are held. Three cases, and each leads somewhere else.
+#[derive(Clone, Copy, PartialEq, Eq, Debug)]
 pub enum Found {
     Nothing,
     Bad,
@@ -55,74 +56,60 @@ pub fn start(most: u64) -> Reading
 }
 
 // The bytes of a chunk up to the end of a line, or all of them.
+#[tactic(auto, unfolding(crate::specs::Steps::scan_from))]
 pub fn scan(r: Reading, held: &mut [u8], s: &[u8]) -> Scanned
     ensures { (result, held.new) ≡ scan_of r held.old s.now }
 {
     let mut reading = r;
-    let mut used: usize = 0;
-    while used < s.len() {
-        let t = step(reading, held, s[used]);
-        let next = t.reading;
-        let found = t.found;
-        reading = next;
-        used += 1;
-        if ends(found) {
+    for (i, &b) in s.iter().enumerate() {
+        let t = step(reading, held, b);
+        reading = t.reading;
+        if ends(t.found) {
             return Scanned {
                 reading,
-                found,
-                used,
+                found: t.found,
+                used: i + 1,
             };
         }
     }
     Scanned {
         reading,
         found: Found::Nothing,
-        used,
+        used: s.len(),
     }
 }
 
 // One byte of the input: a line ends at an LF behind a CR. A CR or LF that ends no line makes its line bad, and so does a
 // byte for which no place is left.
+#[tactic(auto, unfolding(crate::specs::Steps::step_of))]
 pub fn step(r: Reading, held: &mut [u8], b: u8) -> Stepped
     ensures { (result, held.new) ≡ step_of r held.old b }
 {
     if r.most <= r.number {
         return still(r);
     }
-    if b == b'\n' {
-        if r.cr {
-            return ended(r, ending(r));
+    match b {
+        b'\n' if r.cr => ended(r, ending(r)),
+        b'\n' => spoilt(r, false),
+        b'\r' if r.cr => spoilt(r, true),
+        b'\r' => waiting(r),
+        _ if !r.cr && r.len < held.len() => {
+            held[r.len] = b;
+            holding(r, r.len + 1)
         }
-        return spoilt(r, false);
+        _ => spoilt(r, false),
     }
-    if b == b'\r' {
-        if r.cr {
-            return spoilt(r, true);
-        }
-        return waiting(r);
-    }
-    if r.cr {
-        return spoilt(r, false);
-    }
-    let n = r.len;
-    if n < held.len() {
-        held[n] = b;
-        return holding(r, n + 1);
-    }
-    spoilt(r, false)
 }
 
 // The input's end: a last line may lack its CRLF, and nothing after the last CRLF is no line. A CR that waits is a lone one.
+#[tactic(auto, unfolding(crate::specs::Steps::close_of))]
 pub fn close(r: Reading) -> Stepped
     ensures { result ≡ close_of r }
 {
     if r.most <= r.number {
         return still(r);
     }
-    if r.cr {
-        return ended(r, Found::Bad);
-    }
-    if r.bad {
+    if r.cr || r.bad {
         return ended(r, Found::Bad);
     }
     if r.len == 0 {
@@ -135,11 +122,7 @@ pub fn close(r: Reading) -> Stepped
 pub fn ends(found: Found) -> bool
     ensures { result ≡ ends_of found }
 {
-    match found {
-        Found::Nothing => false,
-        Found::Bad => true,
-        Found::Whole(_) => true,
-    }
+    found != Found::Nothing
 }
 
 // No line ended.
@@ -167,10 +150,7 @@ fn ended(r: Reading, found: Found) -> Stepped
 fn ending(r: Reading) -> Found
     ensures { result ≡ ending_of r }
 {
-    if r.bad {
-        return Found::Bad;
-    }
-    if r.len == 0 {
+    if r.bad || r.len == 0 {
         return Found::Bad;
     }
     Found::Whole(r.len)
@@ -190,26 +170,22 @@ fn fresh(most: u64, number: u64) -> Reading
 }
 
 // The line is bad, whatever follows.
-fn spoilt(mut r: Reading, cr: bool) -> Stepped
+fn spoilt(r: Reading, cr: bool) -> Stepped
     ensures { result ≡ still_of (spoilt_of r cr) }
 {
-    r.bad = true;
-    r.cr = cr;
-    still(r)
+    still(Reading { bad: true, cr, ..r })
 }
 
 // A CR that may begin the line's end.
-fn waiting(mut r: Reading) -> Stepped
+fn waiting(r: Reading) -> Stepped
     ensures { result ≡ still_of (waiting_of r) }
 {
-    r.cr = true;
-    still(r)
+    still(Reading { cr: true, ..r })
 }
 
 // The line with `len` bytes held.
-fn holding(mut r: Reading, len: usize) -> Stepped
+fn holding(r: Reading, len: usize) -> Stepped
     ensures { result ≡ still_of (holding_of r len) }
 {
-    r.len = len;
-    still(r)
+    still(Reading { len, ..r })
 }

@@ -1,10 +1,10 @@
 -- What demand 3 says of the wrong programs that document 01 names: it shuts out doing nothing, and working in the first round only; yes to
 -- every attribute meets its first half. The machine meets both halves.
 -- Assumes nothing.
+use Rattle.std.specs.Prelude.{None}
 use mathlib.Core.Path.{◌≡◌, refl, sym, ap, ◌∙◌}
 use mathlib.Core.Bool.{true, false}
 use mathlib.Core.List.{List, [], ◌∷◌, map}
-use mathlib.Core.Option.{none}
 use Prim.Native.Nat.{ℕ, ◌+◌, ◌≤◌}
 use native.Mathlib.Omega.{arith}
 use borrow.Author.Tests.{eqb-true, not-false}
@@ -65,7 +65,7 @@ written_front ids out h =
     ap (take (length out)) (sets-eq out ids 0 (omega arith)) ∙ take-append_seam out (drop (0 + length out) ids)
 
 -- a round that is not refused makes no more hand-outs than there are ids
-room : (at : Settings) (os ids : List ℕ) (s : State) → refusal (call.round at os ids) s ≡ none
+room : (at : Settings) (os ids : List ℕ) (s : State) → refusal (call.round at os ids) s ≡ None
     → length (play at (map (bare at.events) os) s).out ≤ length ids
 room at os ids s unrefused =
     let a = unobjected _ _ _ (ap first_of (sym (round_objects s at os ids)) ∙ no_objection (call.round at os ids) s unrefused) in

@@ -1,10 +1,9 @@
 -- Demand 3 of the code: its histories and rounds go as the machine's, of which it is proved in crate heard.
 -- Assumes nothing.
+use Rattle.std.specs.Prelude.{Option, Some, None}
 use mathlib.Core.Path.{◌≡◌, refl, sym, ap, ◌∙◌, subst}
 use mathlib.Core.Bool.{true, ◌&&◌}
 use mathlib.Core.List.{List, [], ◌∷◌, map}
-use mathlib.Core.Option.{Option, none}
-use mathlib.Core.Option.{some as just}
 use Prim.Native.Nat.{ℕ, ◌<◌}
 use native.Mathlib.Omega.{arith}
 use lib.Dec.{eqb}
@@ -177,12 +176,12 @@ number_positive NotWellKept = omega arith
 number_positive BadLine = omega arith
 
 -- the round call of the code
-unrefused : (s : State) (op : Op) → code_of (step op s).answer ≡ 0 → refusal op s ≡ none
+unrefused : (s : State) (op : Op) → code_of (step op s).answer ≡ 0 → refusal op s ≡ None
 unrefused s op h = go (refusal op s) (sym (ap number_in (same_refusal op s)) ∙ h)
   where
-    go : (r : Option Refusal) → number_in r ≡ 0 → r ≡ none
-    go none e = refl
-    go (just why) e = absurd (let p = number_positive why in omega arith)
+    go : (r : Option Refusal) → number_in r ≡ 0 → r ≡ None
+    go None e = refl
+    go (Some why) e = absurd (let p = number_positive why in omega arith)
 
 pub code_round_call : RoundCallPlays
 code_round_call capacity before at outcomes ids able served =

@@ -1,11 +1,12 @@
 -- Histories of the code: the calls of table and round, one after another, each by the definition that its contract names. Answers are told in
 -- the machine's words.
 -- Assumes nothing.
-use Rattle.std.specs.Prelude.{List, [], ◌∷◌}
+use Rattle.std.specs.Prelude.{List, [], ◌∷◌, Result, ⊤}
+use Rattle.refusal.specs.declared.Refusal.{Refusal}
 use Rattle.places.specs.declared.Table.{Table}
 use Rattle.rules.specs.Calls.{Op, Answer}
-use Rattle.places.specs.Calls.{new_table, add_to, resume_in, note_in, report_in, complete_in, remove_in, clear_in, purge_in, attribute_at, send_at, next_at, any_at, alive_at, load_of, has_at}
-use Rattle.places.specs.Agreement.{new_answer, new_leaves, admission_answer, hearing_answer, hand_out_answer, completion_answer, waking_answer, change_answer, told_answer, moment_answer, alive_answer, load_answer}
+use Rattle.places.specs.Calls.{Tabled, new_table, add_to, resume_in, note_in, report_in, complete_in, remove_in, clear_in, purge_in, attribute_at, send_at, next_at, any_at, alive_at, load_of, has_at}
+use Rattle.places.specs.Agreement.{answer_by, new_leaves, hand_out_answer}
 use Rattle.round.specs.Rounds.{round_of}
 use Rattle.round.specs.Agreement.{rounding_answer}
 use Rattle.rules.specs.Calls as call
@@ -18,27 +19,33 @@ pub record Reply : Type 0 where
 abbrev pub reply : Answer → Table → Reply
 reply answer t = record { answer = answer; table = t }
 
+-- of a call that changes the table, and of a question, which leaves it as it is; f says the answer in the machine's words
+abbrev pub changed : {A : Type 0} → (A → Answer) → Tabled A → Reply
+changed f r = reply (answer_by f r.answer) r.table
+
+abbrev pub asked : {A : Type 0} → (A → Answer) → Result A Refusal → Table → Reply
+asked f a t = reply (answer_by f a) t
+
 -- what the code answers and leaves; a new table stands in place of the one that was there, unless it is refused
 unfoldable pub reply_to : Op → Table → Reply
 reply_to (call.new capacity) t =
-    reply (new_answer (new_table capacity).answer (new_table capacity).table) (new_leaves (new_table capacity).answer t (new_table capacity).table)
-reply_to (call.add request events now) t =
-    reply (admission_answer (add_to t request events now).answer) (add_to t request events now).table
-reply_to (call.resume id request events) t =
-    reply (admission_answer (resume_in t id request events).answer) (resume_in t id request events).table
-reply_to (call.note e c a) t = reply (hearing_answer (note_in t e c a).answer) (note_in t e c a).table
-reply_to (call.report at) t = reply (hand_out_answer (report_in t at).answer) (report_in t at).table
-reply_to (call.complete id o) t = reply (completion_answer (complete_in t id o).answer) (complete_in t id o).table
-reply_to (call.remove choice reason) t = reply (waking_answer (remove_in t choice reason).answer) (remove_in t choice reason).table
-reply_to call.clear t = reply (waking_answer (clear_in t).answer) (clear_in t).table
-reply_to call.purge t = reply (change_answer (purge_in t).answer) (purge_in t).table
-reply_to (call.attribute id e c a) t = reply (told_answer (attribute_at t id e c a)) t
-reply_to (call.send_if_empty id kind) t = reply (told_answer (send_at t id kind)) t
-reply_to (call.next_instant events kind) t = reply (moment_answer (next_at t events kind)) t
-reply_to (call.any_reportable now events kind) t = reply (told_answer (any_at t now events kind)) t
-reply_to call.next_keep_alive t = reply (alive_answer (alive_at t)) t
-reply_to (call.statistics fabric) t = reply (load_answer (load_of t fabric)) t
-reply_to (call.has_subscription fabric peer) t = reply (told_answer (has_at t fabric peer)) t
+    let made : Tabled ⊤ = new_table capacity in
+    reply (answer_by (λ _. call.number made.table.capacity) made.answer) (new_leaves made.answer t made.table)
+reply_to (call.add request events now) t = changed call.number (add_to t request events now)
+reply_to (call.resume id request events) t = changed call.number (resume_in t id request events)
+reply_to (call.note e c a) t = changed (λ x. call.heard x.identity x.wakes) (note_in t e c a)
+reply_to (call.report at) t = changed hand_out_answer (report_in t at)
+reply_to (call.complete id o) t = changed (λ x. call.completed x.kept x.failed) (complete_in t id o)
+reply_to (call.remove choice reason) t = changed call.yes_no (remove_in t choice reason)
+reply_to call.clear t = changed call.yes_no (clear_in t)
+reply_to call.purge t = changed (λ _. call.done) (purge_in t)
+reply_to (call.attribute id e c a) t = asked call.yes_no (attribute_at t id e c a) t
+reply_to (call.send_if_empty id kind) t = asked call.yes_no (send_at t id kind) t
+reply_to (call.next_instant events kind) t = asked call.instant (next_at t events kind) t
+reply_to (call.any_reportable now events kind) t = asked call.yes_no (any_at t now events kind) t
+reply_to call.next_keep_alive t = asked call.keep_alive (alive_at t) t
+reply_to (call.statistics fabric) t = asked (λ x. call.stats x.places x.fabric x.established) (load_of t fabric) t
+reply_to (call.has_subscription fabric peer) t = asked call.yes_no (has_at t fabric peer) t
 reply_to (call.round at outcomes ids) t =
     reply (rounding_answer (round_of t at outcomes ids).0.answer (round_of t at outcomes ids).1) (round_of t at outcomes ids).0.table
 

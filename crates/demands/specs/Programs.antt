@@ -1,8 +1,7 @@
 -- Demand 3 of a program in place of the code, over whatever state it keeps: its answers are asked, on histories of which document 01's
 -- machine says who is live, open and unheard. The programs are those of crate original, which asks demand 2 of them.
 -- Assumes nothing.
-use Rattle.std.specs.Prelude.{◌≡◌, true, false, ◌&&◌, List, map, ℕ, ◌+◌, ◌<◌, eqb, take}
-use Rattle.std.proofs.Math.Option.{none}
+use Rattle.std.specs.Prelude.{◌≡◌, true, false, ◌&&◌, List, map, ℕ, ◌+◌, ◌<◌, eqb, take, None}
 use Rattle.subscription.specs.declared.Settings.{Settings}
 use Rattle.lists.specs.Search.{some}
 use Rattle.entries.specs.Paths.{entry, covers}
@@ -46,6 +45,6 @@ module _ {S : Type 0} where
       → RoundBegins at (run since (noted capacity before endpoint cluster attr))
       → some odd (map (bare at.events) outcomes) ≡ false
       → some (λ x. has_id i x && allowed_by at.now x) (run since (noted capacity before endpoint cluster attr)).stored ≡ true
-      → refusal (call.round at outcomes ids) (run since (noted capacity before endpoint cluster attr)) ≡ none
+      → refusal (call.round at outcomes ids) (run since (noted capacity before endpoint cluster attr)) ≡ None
       → (p (call.round at outcomes ids) (reached_since begin p capacity before endpoint cluster attr since)).0 ≡ call.rounded n true written
       → some (λ y. eqb y i) (take n written) ≡ true

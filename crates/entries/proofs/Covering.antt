@@ -9,7 +9,7 @@ use borrow.Author.Tests.{eqb-true, eqb-false, eq-eqb, ne_eqb}
 use lib.Dec.{eqb, leb, ltb}
 use Rattle.entries.specs.declared.ChangedAttr.{ChangedAttr}
 use Rattle.entries.specs.declared.Level.TheVariants.{Cluster, Endpoint}
-use Rattle.entries.specs.declared.Coarser.TheVariants.{To, Nothing}
+use Rattle.std.specs.Prelude.{Some, None}
 use Rattle.entries.specs.Paths.{entry, with_identity, all_wild, wild_endpoint, wild_cluster, wild_attr, field_covers, field_matches, covers, matches, over, under, up_to, above, since, candidate}
 use Rattle.lists.proofs.Bools.{split, and_both, and_true, or_either, or_left}
 
@@ -127,11 +127,11 @@ since_at path x = refl
 
 pub candidate_cluster : (x : ChangedAttr)
     → candidate Cluster x
-    ≡ cond (eqb x.endpoint wild_endpoint || eqb x.cluster wild_cluster) Nothing (To (entry x.endpoint x.cluster wild_attr 0))
+    ≡ cond (eqb x.endpoint wild_endpoint || eqb x.cluster wild_cluster) None (Some (entry x.endpoint x.cluster wild_attr 0))
 unfolding candidate
 candidate_cluster x = refl
 
 pub candidate_endpoint : (x : ChangedAttr)
-    → candidate Endpoint x ≡ cond (eqb x.endpoint wild_endpoint) Nothing (To (entry x.endpoint wild_cluster wild_attr 0))
+    → candidate Endpoint x ≡ cond (eqb x.endpoint wild_endpoint) None (Some (entry x.endpoint wild_cluster wild_attr 0))
 unfolding candidate
 candidate_endpoint x = refl

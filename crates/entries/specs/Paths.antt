@@ -1,14 +1,12 @@
 -- Entries of the change log, when one covers another, and the coarser one that can stand for it, as document 01 has it, "Change log". What
 -- a log does with them is not said here.
 -- Assumes nothing.
-use Rattle.std.specs.Prelude.{Bool, not, cond, ◌&&◌, ◌||◌, ℕ, eqb, leb, ltb}
+use Rattle.std.specs.Prelude.{Bool, not, cond, ◌&&◌, ◌||◌, ℕ, eqb, leb, ltb, Option, Some, None}
 use Rattle.entries.specs.declared.ChangedAttr.{ChangedAttr}
 use Rattle.entries.specs.declared.Rule.{Rule}
 use Rattle.entries.specs.declared.Rule.TheVariants.{Over, Under, UpTo, Above, Since}
 use Rattle.entries.specs.declared.Level.{Level}
 use Rattle.entries.specs.declared.Level.TheVariants.{Cluster, Endpoint}
-use Rattle.entries.specs.declared.Coarser.{Coarser}
-use Rattle.entries.specs.declared.Coarser.TheVariants.{To, Nothing}
 
 -- "endpoint, cluster, attribute, identity"
 abbrev pub entry : ℕ → ℕ → ℕ → ℕ → ChangedAttr
@@ -85,7 +83,7 @@ holds (Above s) = above s
 holds (Since path) = since path
 
 -- "level 1 makes a candidate of endpoint and cluster from each entry where neither is wild; level 2 of endpoint alone where it isn't wild."
-unfoldable pub candidate : Level → ChangedAttr → Coarser
+unfoldable pub candidate : Level → ChangedAttr → Option ChangedAttr
 candidate Cluster x =
-    cond (eqb x.endpoint wild_endpoint || eqb x.cluster wild_cluster) Nothing (To (entry x.endpoint x.cluster wild_attr 0))
-candidate Endpoint x = cond (eqb x.endpoint wild_endpoint) Nothing (To (entry x.endpoint wild_cluster wild_attr 0))
+    cond (eqb x.endpoint wild_endpoint || eqb x.cluster wild_cluster) None (Some (entry x.endpoint x.cluster wild_attr 0))
+candidate Endpoint x = cond (eqb x.endpoint wild_endpoint) None (Some (entry x.endpoint wild_cluster wild_attr 0))

@@ -8,7 +8,7 @@ ghost use Rattle.entries.specs.Paths.{field_covers, field_matches, covers, match
 // One entry: a path, and the identity of its latest change. A wild field stands for every value of it. Its layout is C's, as the log's, so
 // that a host in another language can lend one.
 #[repr(C)]
-#[derive(Clone, Copy)]
+#[derive(Clone, Copy, PartialEq, Eq, Debug)]
 pub struct ChangedAttr {
     pub identity: u64,
     pub cluster: u32,
@@ -16,8 +16,8 @@ pub struct ChangedAttr {
     pub endpoint: u16,
 }
 
-// Which entries a scan is after.
-#[derive(Clone, Copy)]
+// Which entries a scan is after. An enum and no closure: the definitions and `Held`'s public methods name the five.
+#[derive(Clone, Copy, PartialEq, Eq, Debug)]
 pub enum Rule {
     // Those that cover the entry.
     Over(ChangedAttr),
@@ -32,7 +32,7 @@ pub enum Rule {
 }
 
 // How coarse a group is.
-#[derive(Clone, Copy)]
+#[derive(Clone, Copy, PartialEq, Eq, Debug)]
 pub enum Level {
     // All attributes of one cluster on one endpoint.
     Cluster,
@@ -40,15 +40,9 @@ pub enum Level {
     Endpoint,
 }
 
-// The coarser entry that stands for an entry's group, where it has one.
-#[derive(Clone, Copy)]
-pub enum Coarser {
-    To(ChangedAttr),
-    Nothing,
-}
-
 impl Rule {
     // Whether the entry is one of those.
+    #[tactic(auto, unfolding(crate::specs::Paths::over, crate::specs::Paths::under, crate::specs::Paths::up_to, crate::specs::Paths::above, crate::specs::Paths::since))]
     pub fn meets(self, x: ChangedAttr) -> bool
         ensures { result ≡ holds self x }
     {
@@ -57,12 +51,7 @@ impl Rule {
             Rule::Under(e) => e.covers(x),
             Rule::UpTo(t) => x.identity <= t,
             Rule::Above(s) => s < x.identity,
-            Rule::Since(e) => {
-                if e.identity < x.identity {
-                    return x.matches(e);
-                }
-                false
-            }
+            Rule::Since(e) => e.identity < x.identity && x.matches(e),
         }
     }
 }
@@ -71,9 +60,9 @@ impl ChangedAttr {
     // The values that stand for every endpoint, cluster and attribute. No device has such an id.
     pub const WILD: ChangedAttr = ChangedAttr {
         identity: 0,
-        cluster: 4294967295,
-        attr: 4294967295,
-        endpoint: 65535,
+        cluster: u32::MAX,
+        attr: u32::MAX,
+        endpoint: u16::MAX,
     };
 
     // What stands in a place that holds no entry.
@@ -85,86 +74,67 @@ impl ChangedAttr {
     };
 
     // The entry of this one's group at the level. An entry that is as coarse already has none.
-    pub fn coarsen(self, level: Level) -> Coarser
+    #[tactic(auto, unfolding(crate::specs::Paths::candidate))]
+    pub fn coarsen(self, level: Level) -> Option<ChangedAttr>
         ensures { result ≡ candidate level self }
     {
         let wild = Self::WILD;
         if self.endpoint == wild.endpoint {
-            return Coarser::Nothing;
+            return None;
         }
         match level {
-            Level::Cluster => {
-                if self.cluster == wild.cluster {
-                    return Coarser::Nothing;
-                }
-                Coarser::To(ChangedAttr {
-                    identity: 0,
-                    cluster: self.cluster,
-                    attr: wild.attr,
-                    endpoint: self.endpoint,
-                })
-            }
-            Level::Endpoint => Coarser::To(ChangedAttr {
+            Level::Cluster if self.cluster == wild.cluster => None,
+            Level::Cluster => Some(ChangedAttr {
                 identity: 0,
-                cluster: wild.cluster,
                 attr: wild.attr,
+                ..self
+            }),
+            Level::Endpoint => Some(ChangedAttr {
                 endpoint: self.endpoint,
+                ..wild
             }),
         }
     }
 
     // Whether whoever hears of this entry hears of the other's path too.
+    #[tactic(auto, unfolding(crate::specs::Paths::covers))]
     fn covers(self, other: ChangedAttr) -> bool
         ensures { result ≡ covers self other }
     {
         let wild = Self::WILD;
-        if field_covers(
-            wild.endpoint as u32,
-            self.endpoint as u32,
-            other.endpoint as u32,
-        ) {
-            if field_covers(wild.cluster, self.cluster, other.cluster) {
-                return field_covers(wild.attr, self.attr, other.attr);
-            }
-        }
-        false
+        field_covers(
+            wild.endpoint.into(),
+            self.endpoint.into(),
+            other.endpoint.into(),
+        ) && field_covers(wild.cluster, self.cluster, other.cluster)
+            && field_covers(wild.attr, self.attr, other.attr)
     }
 
-    // Whether the path is among those that this entry stands for.
+    // Whether the path is among those that this entry stands for. Document 01 has two sentences; that they are one is `matches_covers`.
+    #[tactic(auto, unfolding(crate::specs::Paths::matches))]
     fn matches(self, path: ChangedAttr) -> bool
         ensures { result ≡ matches self path }
     {
         let wild = Self::WILD;
-        if field_matches(
-            wild.endpoint as u32,
-            self.endpoint as u32,
-            path.endpoint as u32,
-        ) {
-            if field_matches(wild.cluster, self.cluster, path.cluster) {
-                return field_matches(wild.attr, self.attr, path.attr);
-            }
-        }
-        false
+        field_matches(
+            wild.endpoint.into(),
+            self.endpoint.into(),
+            path.endpoint.into(),
+        ) && field_matches(wild.cluster, self.cluster, path.cluster)
+            && field_matches(wild.attr, self.attr, path.attr)
     }
 }
 
+#[tactic(auto, unfolding(crate::specs::Paths::field_covers))]
 fn field_covers(wild: u32, a: u32, b: u32) -> bool
     ensures { result ≡ field_covers wild a b }
 {
-    if a == wild {
-        return true;
-    }
-    if b == wild {
-        return false;
-    }
-    a == b
+    a == wild || (b != wild && a == b)
 }
 
+#[tactic(auto, unfolding(crate::specs::Paths::field_matches))]
 fn field_matches(wild: u32, a: u32, b: u32) -> bool
     ensures { result ≡ field_matches wild a b }
 {
-    if a == wild {
-        return true;
-    }
-    a == b
+    a == wild || a == b
 }

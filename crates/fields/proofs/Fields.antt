@@ -1,6 +1,7 @@
 -- The field reader's loop reads what `field_of` says: a number only grows, so it may be refused at the first digit that takes it
 -- over its width; and it is 0 behind its first byte exactly if that byte is a zero.
 -- Assumes nothing.
+use Rattle.std.specs.Prelude.{Option, Some, None}
 use mathlib.Core.Path.{◌≡◌, refl, ap, ◌∙◌}
 use mathlib.Core.Bool.{Bool, true, false, cond, not, ◌&&◌, and-true, and-false}
 use mathlib.Core.List.{List, [], ◌∷◌}
@@ -12,22 +13,19 @@ use lib.Dec.{eqb, leb, ltb, leb-suc-suc}
 use lib.ListN.{length}
 use borrow.Author.Tests.{ne_eqb, lt-ltb, le-leb, lt-leb, eqb-true, eqb-false, leb-true, leb-false, ltb-true}
 use Rattle.fields.specs.Bytes.{comma, zero_digit}
-use Rattle.fields.specs.Fields.{digit, digits, decimal, number_from, number_of, front, field_of}
+use Rattle.fields.specs.Fields.{digit, digits, decimal, number_from, number_of, front, last, more, field_of}
 use Rattle.fields.specs.Inner.{zero_led, grow_of}
 use Rattle.fields.specs.declared.Field.{Field}
-use Rattle.fields.specs.declared.Field.TheVariants.{More, Last, Bad}
-use Rattle.fields.specs.declared.Grown.{Grown}
-use Rattle.fields.specs.declared.Grown.TheVariants.{To, Not}
 
 -- what is left to read, where i bytes have passed and say v
-abbrev go_on : (ℕ → Field) → Grown → Field
-go_on go Not = Bad
-go_on go (To w) = go w
+abbrev go_on : (ℕ → Option Field) → Option ℕ → Option Field
+go_on go None = None
+go_on go (Some w) = go w
 
-unfoldable pub field_from : ℕ → ℕ → ℕ → List ℕ → Field
-field_from most v i [] = cond (eqb i 0) Bad (Last v)
+unfoldable pub field_from : ℕ → ℕ → ℕ → List ℕ → Option Field
+field_from most v i [] = cond (eqb i 0) None (Some (last v))
 field_from most v i (b ∷ bs) =
-    cond (eqb b comma) (cond (eqb i 0) Bad (More v (i + 1))) (go_on (λ w. field_from most w (i + 1) bs) (grow_of most v i b))
+    cond (eqb b comma) (cond (eqb i 0) None (Some (more v (i + 1)))) (go_on (λ w. field_from most w (i + 1) bs) (grow_of most v i b))
 
 -- the bytes that may follow there
 unfoldable tidy : ℕ → ℕ → List ℕ → Bool
@@ -63,13 +61,13 @@ number_grows v [] = omega arith
 number_grows v (b ∷ bs) = let h = number_grows (v * 10 + (b - zero_digit)) bs in omega arith
 
 -- what is made of the bytes f before the comma, where n bytes are left
-abbrev judged : ℕ → ℕ → ℕ → List ℕ → ℕ → Field
+abbrev judged : ℕ → ℕ → ℕ → List ℕ → ℕ → Option Field
 judged most v i f n =
     cond (tidy v i f && leb (number_from v f) most)
-    (cond (ltb (length f) n) (More (number_from v f) (i + length f + 1)) (Last (number_from v f)))
-    Bad
+    (cond (ltb (length f) n) (Some (more (number_from v f) (i + length f + 1))) (Some (last (number_from v f))))
+    None
 
-some : (x : Bool) (a : Field) → cond x Bad a ≡ cond (not x && true) a Bad
+some : (x : Bool) (a : Option Field) → cond x None a ≡ cond (not x && true) a None
 some true a = refl
 some false a = refl
 
@@ -95,12 +93,12 @@ module _ (most v i b : ℕ) (bs : List ℕ) where
 
   by_comma : (t : Bool) → eqb b comma ≡ t → v ≤ most → Read-on → field_from most v i (b ∷ bs) ≡ judged most v i (front (b ∷ bs)) (length (b ∷ bs))
   unfolding tidy field_from front number_from
-  by_comma true e h ih = rw (e, le-leb v most h, lt-ltb 0 (suc (length bs)) (omega arith), add-zero) (some (eqb i 0) (More v (i + 1)))
+  by_comma true e h ih = rw (e, le-leb v most h, lt-ltb 0 (suc (length bs)) (omega arith), add-zero) (some (eqb i 0) (Some (more v (i + 1))))
   by_comma false e h ih = rw e (by_digit (not (zero_led v i)) (digit b) (leb w most) refl refl refl ih)
 
 field_tidy : (most v i : ℕ) (s : List ℕ) → v ≤ most → field_from most v i s ≡ judged most v i (front s) (length s)
 unfolding tidy field_from front number_from
-field_tidy most v i [] h = rw (le-leb v most h) (some (eqb i 0) (Last v))
+field_tidy most v i [] h = rw (le-leb v most h) (some (eqb i 0) (Some (last v)))
 field_tidy most v i (b ∷ bs) h =
     by_comma most v i b bs (eqb b comma) refl h (λ k. field_tidy most (v * 10 + (b - zero_digit)) (i + 1) bs k)
 
@@ -109,19 +107,23 @@ unfolding field_of
 field_is most s = field_tidy most 0 0 s (omega arith) ∙ rw (tidy_is (front s), zero-add)
 
 -- the value that a field holds, and where the part behind its comma starts
-abbrev pub value_of : Field → ℕ
-value_of (More v n) = v
-value_of (Last v) = v
-value_of Bad = 0
+abbrev pub value_of : Option Field → ℕ
+value_of (Some f) = f.value
+value_of None = 0
 
-abbrev pub next_of : Field → ℕ
-next_of (More v n) = n
-next_of (Last v) = 0
-next_of Bad = 0
+abbrev pub start_of : Option ℕ → ℕ
+start_of (Some n) = n
+start_of None = 0
+
+abbrev pub next_of : Option Field → ℕ
+next_of (Some f) = start_of f.next
+next_of None = 0
 
 module _ (most v k n : ℕ) where
-  bounded : (d l m : Bool) → leb v most ≡ l → ltb k n ≡ m
-      → (value_of (cond (d && l) (cond m (More v (k + 1)) (Last v)) Bad) ≤ most) × (next_of (cond (d && l) (cond m (More v (k + 1)) (Last v)) Bad) ≤ n)
+  abbrev read : Bool → Bool → Bool → Option Field
+  read d l m = cond (d && l) (cond m (Some (more v (k + 1))) (Some (last v))) None
+
+  bounded : (d l m : Bool) → leb v most ≡ l → ltb k n ≡ m → (value_of (read d l m) ≤ most) × (next_of (read d l m) ≤ n)
   bounded false l m e f = omega arith
   bounded true false m e f = omega arith
   bounded true true false e f = let h = leb-true v most e in omega arith

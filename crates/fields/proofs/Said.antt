@@ -1,5 +1,6 @@
 -- A text that says a number: how it grows by a digit, and that the field reader reads it.
 -- Assumes nothing.
+use Rattle.std.specs.Prelude.{Some}
 use mathlib.Core.Path.{◌≡◌, refl, sym, ap, ◌∙◌}
 use mathlib.Core.Bool.{not, ◌&&◌, true, false}
 use mathlib.Core.List.{List, [], ◌∷◌, ◌++◌, append-nil}
@@ -9,8 +10,7 @@ use lib.Dec.{eqb, leb}
 use lib.ListN.{length, length-append}
 use borrow.Author.Tests.{ne_eqb, lt-ltb, le-ltb, le-leb, leb-true}
 use Rattle.fields.specs.Bytes.{comma, zero_digit, nine_digit}
-use Rattle.fields.specs.Fields.{digit, digits, decimal, number_from, number_of, front, field_of}
-use Rattle.fields.specs.declared.Field.TheVariants.{More, Last}
+use Rattle.fields.specs.Fields.{digit, digits, decimal, number_from, number_of, front, last, more, field_of}
 use Rattle.lists.proofs.Bools.{and_both}
 
 -- a digit more
@@ -70,14 +70,14 @@ says_more a n d p h k =
 
 module _ (most n : ℕ) (a : List ℕ) (fits : n ≤ most) (p : Says a n) where
   -- before a comma, and at the end of a line
-  pub read_more : (l : List ℕ) → field_of most (a ++ (comma ∷ l)) ≡ More n (length a + 1)
+  pub read_more : (l : List ℕ) → field_of most (a ++ (comma ∷ l)) ≡ Some (more n (length a + 1))
   unfolding field_of front
   read_more l =
       let e : front (a ++ (comma ∷ l)) ≡ a = front_digits a (comma ∷ l) (decimal_digits a p.plain) ∙ append-nil a in
       let k : length a < length (a ++ (comma ∷ l)) = omega (arith, length-append a (comma ∷ l)) in
       rw (e, p.plain, p.number, le-leb n most fits, lt-ltb _ _ k)
 
-  pub read_last : field_of most a ≡ Last n
+  pub read_last : field_of most a ≡ Some (last n)
   unfolding field_of front
   read_last =
       let e : front a ≡ a = ap front (sym (append-nil a)) ∙ front_digits a [] (decimal_digits a p.plain) ∙ append-nil a in

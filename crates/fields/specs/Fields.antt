@@ -1,9 +1,8 @@
 -- A decimal field at the front of a part of a line, as document 01 has it, "Trace lines".
 -- Many in a row are said in Rows. Assumes nothing.
-use Rattle.std.specs.Prelude.{Bool, true, false, cond, not, ◌&&◌, List, [], ◌∷◌, ℕ, ◌+◌, ◌-◌, ◌*◌, eqb, leb, ltb, length}
+use Rattle.std.specs.Prelude.{Option, Some, None, Bool, true, false, cond, not, ◌&&◌, List, [], ◌∷◌, ℕ, ◌+◌, ◌-◌, ◌*◌, eqb, leb, ltb, length}
 use Rattle.fields.specs.Bytes.{comma, zero_digit, nine_digit}
 use Rattle.fields.specs.declared.Field.{Field}
-use Rattle.fields.specs.declared.Field.TheVariants.{More, Last, Bad}
 
 -- no sign, no space, no quote: a field is made of digits alone
 abbrev pub digit : ℕ → Bool
@@ -37,9 +36,17 @@ front (b ∷ bs) = cond (eqb b comma) [] (b ∷ front bs)
 abbrev pub fits : ℕ → List ℕ → Bool
 fits most f = decimal f && leb (number_of f) most
 
+-- a number that ends the line
+abbrev pub last : ℕ → Field
+last x = record { value = x; next = None }
+
+-- a number with a comma behind it
+abbrev pub more : ℕ → ℕ → Field
+more x next = record { value = x; next = Some next }
+
 -- "The rest of a line after each comma goes on as a part": a field with a comma behind it says where that part begins
-unfoldable pub field_of : ℕ → List ℕ → Field
+unfoldable pub field_of : ℕ → List ℕ → Option Field
 field_of most s =
     cond (fits most (front s))
-    (cond (ltb (length (front s)) (length s)) (More (number_of (front s)) (length (front s) + 1)) (Last (number_of (front s))))
-    Bad
+    (cond (ltb (length (front s)) (length s)) (Some (more (number_of (front s)) (length (front s) + 1))) (Some (last (number_of (front s)))))
+    None

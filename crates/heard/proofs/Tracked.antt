@@ -1,9 +1,9 @@
 -- A note that one subscription has not heard of: the log stands for it, and the subscription has seen less. Both last while it is unheard.
 -- Assumes nothing.
+use Rattle.std.specs.Prelude.{None}
 use mathlib.Core.Path.{◌≡◌, sym, ap, ◌∙◌}
 use mathlib.Core.Bool.{Bool, true, false, not, cond, and-false, ◌&&◌, ◌||◌}
 use mathlib.Core.List.{[]}
-use mathlib.Core.Option.{none}
 use Prim.Native.Nat.{ℕ, ◌≤◌, ◌<◌}
 use native.Mathlib.Omega.{arith}
 use borrow.Author.Tests.{le-leb, lt-leb, eqb-true, eqb-false, eq-eqb}
@@ -61,7 +61,7 @@ module _ (i k : ℕ) where
       split (eqb j i) (λ e. absurd (clash live (ap (λ n. id_live n s) (sym (eqb-true j i e)) ∙ fresh))) (λ e. e)
 
   module _ (since : Bool) where
-    opened_untold : (at : Settings) (s : State) → refusal (call.report at) s ≡ none → some (ready at s) s.stored ≡ true
+    opened_untold : (at : Settings) (s : State) → refusal (call.report at) s ≡ None → some (ready at s) s.stored ≡ true
         → told i k since (next_up at s) ≡ false → told i k (since || hands_out i (call.report at) s) (opened_in at s (next_up at s)) ≡ false
     opened_untold at s unrefused found free =
         let x = next_up at s in
@@ -99,7 +99,7 @@ module _ (i k : ℕ) where
 
 -- what an unheard call brings in, hands out or stores again is not told
 module _ (i k : ℕ) (pos : 0 < k) (since : Bool) where
-  tells_nobody : (op : Op) (s : State) → id_live i s ≡ true → refusal op s ≡ none → (since && (acts (refusal op s) && ends_heard i op)) ≡ false
+  tells_nobody : (op : Op) (s : State) → id_live i s ≡ true → refusal op s ≡ None → (since && (acts (refusal op s) && ends_heard i op)) ≡ false
       → Spares (told i k since) (told i k (since || hands_out i op s)) op s
   tells_nobody (call.new capacity) s live unrefused quiet = tt
   tells_nobody (call.add request events now) s live unrefused quiet = λ fresh. not_told i k (since || hands_out i (call.add request events now) s) (priming request s.next (watermark_of s.log) events now) (ap (λ n. eqb n i) (priming_id request s.next (watermark_of s.log) events now) ∙ other_id i k s.next s live fresh)

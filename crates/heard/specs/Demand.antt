@@ -1,8 +1,7 @@
 -- Demand 3, as it is proved: the statements alone, each hypothesis under the customer's words. The words in which they are told are in Hearing
 -- and Playing.
 -- Assumes nothing.
-use Rattle.std.specs.Prelude.{◌≡◌, true, false, ◌&&◌, List, map, ℕ, ◌+◌, ◌≤◌, ◌<◌, eqb, length}
-use Rattle.std.proofs.Math.Option.{none}
+use Rattle.std.specs.Prelude.{◌≡◌, true, false, ◌&&◌, List, map, ℕ, ◌+◌, ◌≤◌, ◌<◌, eqb, length, None}
 use Rattle.std.proofs.lemmas.List.Edits.{sets}
 use Rattle.subscription.specs.declared.Settings.{Settings}
 use Rattle.lists.specs.Search.{some, distinct}
@@ -82,7 +81,7 @@ RoundHears =
 abbrev pub RoundCallPlays : Type 0
 RoundCallPlays =
     (at : Settings) (outcomes ids : List ℕ) (s : State)
-    → refusal (call.round at outcomes ids) s ≡ none
+    → refusal (call.round at outcomes ids) s ≡ None
     → step (call.round at outcomes ids) s
     ≡ outcome
     (call.rounded (length (play at (map (bare at.events) outcomes) s).out) (play at (map (bare at.events) outcomes) s).silent

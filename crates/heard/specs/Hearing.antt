@@ -1,7 +1,6 @@
 -- The words of demand 3's first half: the notes of a history, and whether a subscription has heard of a note in it.
 -- Assumes nothing.
-use Rattle.std.specs.Prelude.{Bool, true, false, not, ◌&&◌, ◌||◌, List, [], ◌∷◌, ℕ, eqb, leb}
-use Rattle.std.proofs.Math.Option.{Option, none, some as just}
+use Rattle.std.specs.Prelude.{Bool, true, false, not, ◌&&◌, ◌||◌, List, [], ◌∷◌, ℕ, eqb, leb, Option, Some, None}
 use Rattle.refusal.specs.declared.Refusal.{Refusal}
 use Rattle.lists.specs.Search.{some, count}
 use Rattle.rules.specs.States.{State, id_live}
@@ -60,8 +59,8 @@ ends_heard i (call.round at outcomes ids) = false
 
 -- a call that is refused ends nothing
 abbrev pub acts : Option Refusal → Bool
-acts none = true
-acts (just why) = false
+acts None = true
+acts (Some why) = false
 
 -- i stays live through these calls, and none of them ends as sent or unsent a report of it that was opened in them; the flag says that one
 -- was opened so far. An id is given again only where it is not live, so that i is one and the same subscription throughout

@@ -1,10 +1,8 @@
 -- Instants, as document 01 has them, "Time": their ends, their sum with seconds, and the order of two of them.
 -- What a sum past the last instant means is not the same for all: crate time says it for each.
 -- Assumes nothing.
-use Rattle.std.specs.Prelude.{Bool, cond, ℕ, ◌+◌, ◌*◌, max, leb, eqb}
+use Rattle.std.specs.Prelude.{Bool, cond, ℕ, ◌+◌, ◌*◌, max, leb, eqb, Option, Some, None, unwrap_or}
 use Rattle.instants.specs.declared.Instant.{Instant}
-use Rattle.instants.specs.declared.Later.{Later}
-use Rattle.instants.specs.declared.Later.TheVariants.{At, Overflow}
 
 -- "An instant is a u64 of milliseconds."
 abbrev pub instant : ℕ → Instant
@@ -18,15 +16,14 @@ first_instant = instant 0
 abbrev pub last_instant : Instant
 last_instant = instant 18446744073709551615
 
--- "A second is 1,000.": so many seconds after an instant, or a case of its own where that is past the last instant
-unfoldable pub later : Instant → ℕ → Later
+-- "A second is 1,000.": so many seconds after an instant, or none where that is past the last instant
+unfoldable pub later : Instant → ℕ → Option Instant
 later from secs =
-    cond (leb (from.ms + secs * 1000) last_instant.ms) (At (instant (from.ms + secs * 1000))) Overflow
+    cond (leb (from.ms + secs * 1000) last_instant.ms) (Some (instant (from.ms + secs * 1000))) None
 
 -- the instant, or another one where there is no such instant
-abbrev pub or_else : Later → Instant → Instant
-or_else (At i) other = i
-or_else Overflow other = other
+abbrev pub or_else : Option Instant → Instant → Instant
+or_else found other = unwrap_or found other
 
 -- "the later of" two instants
 abbrev pub later_of : Instant → Instant → Instant

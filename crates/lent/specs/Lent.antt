@@ -1,17 +1,22 @@
 -- The lent form of a note, as document 01 has it: "the host lends its log and the note is entered there". What a note does is said by
 -- crate changes.
 -- Assumes nothing.
-use Rattle.std.specs.Prelude.{ℕ}
+use Rattle.std.specs.Prelude.{ℕ, Result}
+use Rattle.refusal.specs.declared.Refusal.{Refusal}
+use Rattle.answers.specs.declared.Entered.{Entered}
 use Rattle.changes.specs.declared.ChangedAttrs.{ChangedAttrs}
-use Rattle.answers.specs.declared.NoteAnswer.{NoteAnswer}
 use Rattle.changes.specs.Logs.{noted}
-use Rattle.answers.specs.Numbers.{note_number, note_value}
+use Rattle.answers.specs.Numbers.{answer_number, note_value}
 use Rattle.lent.specs.declared.LentAnswer.{LentAnswer}
-use Rattle.lent.specs.declared.LentNote.{LentNote}
+
+-- what a lent note comes to: the answer, and the log that the host then holds
+pub record LentNote : Type 0 where
+  pub answer : LentAnswer
+  pub log : ChangedAttrs
 
 -- the answer in document 01's number and value
-abbrev pub lent_answer : NoteAnswer → LentAnswer
-lent_answer answer = record { identity = note_value answer; code = note_number answer }
+abbrev pub lent_answer : Result Entered Refusal → LentAnswer
+lent_answer answer = record { identity = note_value answer; code = answer_number answer }
 
 -- what the host is told, beside the log that it then holds
 abbrev pub lent : LentAnswer → ChangedAttrs → LentNote

@@ -5,8 +5,9 @@
 ghost use Rattle.std.specs.Prelude.{◌≡◌};
 ghost use Rattle.lent.specs.Lent.{lent_answer, lent, lent_note};
 
-use answers::NoteAnswer;
+use answers::{Entered, code, value};
 use changes::ChangedAttrs;
+use refusal::Refusal;
 
 // What the host is told: document 01's number, 0 for none, and the identity, 0 where the note was refused.
 #[repr(C)]
@@ -16,46 +17,20 @@ pub struct LentAnswer {
     pub code: u8,
 }
 
-// What a lent note comes to: the answer, and the log that the host then holds.
-#[derive(Clone, Copy)]
-pub struct LentNote {
-    pub answer: LentAnswer,
-    pub log: ChangedAttrs,
+impl From<Result<Entered, Refusal>> for LentAnswer {
+    ghost from_gives = { λ answer r. r ≡ lent_answer answer };
+
+    fn from(answer: Result<Entered, Refusal>) -> Self {
+        LentAnswer {
+            identity: value(answer.map(|entered| entered.identity)),
+            code: code(answer),
+        }
+    }
 }
 
 // The host lends its log, and the note is entered there. A refusal leaves the log as it was.
 pub fn note_lent(log: &mut ChangedAttrs, endpoint: u16, cluster: u32, attr: u32) -> LentAnswer
     ensures { lent result log.new ≡ lent_note log.old endpoint cluster attr }
 {
-    let after = numbered_note(*log, endpoint, cluster, attr);
-    *log = after.log;
-    after.answer
-}
-
-// The note by value, its answer in numbers.
-fn numbered_note(log: ChangedAttrs, endpoint: u16, cluster: u32, attr: u32) -> LentNote
-    ensures { result ≡ lent_note log endpoint cluster attr }
-{
-    let noted = log.note(endpoint, cluster, attr);
-    let answer = noted.answer;
-    let after = noted.log;
-    LentNote {
-        answer: in_numbers(answer),
-        log: after,
-    }
-}
-
-fn in_numbers(answer: NoteAnswer) -> LentAnswer
-    ensures { result ≡ lent_answer answer }
-{
-    match answer {
-        NoteAnswer::Entered(entered) => LentAnswer {
-            identity: entered.identity,
-            code: 0,
-        },
-        NoteAnswer::Refused(why) => LentAnswer {
-            identity: 0,
-            code: why.number(),
-        },
-    }
+    LentAnswer::from(log.note(endpoint, cluster, attr))
 }

@@ -8,12 +8,12 @@ use Rattle.fields.specs.Bytes.{comma}
 use Rattle.fields.specs.Fields.{digits, decimal, number_from, front, field_of}
 use Rattle.fields.specs.Rows.{numbers_from, numbers_of}
 use Rattle.lines.specs.Letters.{a, d, e, k, n, o, w}
-use Rattle.lines.specs.Lines.{begins, first_of, line_of}
+use Rattle.lines.specs.Lines.{begins, line_of}
 use Rattle.lines.specs.declared.Line.TheVariants.{New, Add, Done, Wake, Bad}
 
 -- every rule that a line is read by
 line_rules : ℕ
-unfolding digits decimal number_from front field_of begins first_of numbers_from numbers_of line_of
+unfolding digits decimal number_from front field_of begins numbers_from numbers_of line_of
 line_rules = 0
 
 -- new,2   new,0   new,255   new,256   new,02   new,

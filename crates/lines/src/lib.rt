@@ -5,10 +5,10 @@
 #![tactic(auto)]
 
 ghost use Rattle.std.specs.Prelude.{◌≡◌, take};
-ghost use Rattle.lines.specs.Lines.{begins, kind_of, widths_of, filled, made, line_of};
+ghost use Rattle.lines.specs.Lines.{begins, kind_of, word_of, widths_of, filled, line_of};
 ghost use Rattle.fields.specs.Rows.{Fit};
 
-use fields::{Numbers, PLACES, read_fields};
+use fields::{PLACES, read_fields};
 
 #[derive(Clone, Copy)]
 pub enum Line {
@@ -47,6 +47,7 @@ pub enum Line {
         events: u64,
         icd: bool,
     },
+    // Document 01 answers a line of any other shape too.
     Bad,
 }
 
@@ -60,8 +61,18 @@ enum Kind {
     Done,
     Attr,
     Wake,
-    Other,
 }
+
+// In the order in which document 01 lists them.
+const KINDS: [Kind; 7] = [
+    Kind::New,
+    Kind::Add,
+    Kind::Note,
+    Kind::Report,
+    Kind::Done,
+    Kind::Attr,
+    Kind::Wake,
+];
 
 // The greatest number of each width.
 pub const FLAG: u64 = 1;
@@ -74,105 +85,72 @@ pub const BITS32: u64 = 0xffff_ffff;
 
 pub const BITS64: u64 = 0xffff_ffff_ffff_ffff;
 
-// The widths of each kind's fields, in order.
-const NEW: [u64; 1] = [BITS8];
-
-const ADD: [u64; 7] = [BITS64, BITS8, BITS64, BITS16, BITS16, BITS64, BITS16];
-
-const NOTE: [u64; 3] = [BITS16, BITS32, BITS32];
-
-const REPORT: [u64; 4] = [BITS64, BITS64, FLAG, FLAG];
-
-const DONE: [u64; 2] = [BITS32, BITS8];
-
-const ATTR: [u64; 4] = [BITS32, BITS16, BITS32, BITS32];
-
-const WAKE: [u64; 2] = [BITS64, FLAG];
-
 // The line that all of `s` is.
+#[tactic(auto, unfolding(crate::specs::Lines::line_of))]
 pub fn read_line(s: &[u8]) -> Line
     ensures { result ≡ line_of s.now }
 {
-    match kind_of(s) {
-        Kind::New => line_of(Kind::New, read_fields(s, 4, &NEW)),
-        Kind::Add => line_of(Kind::Add, read_fields(s, 4, &ADD)),
-        Kind::Note => line_of(Kind::Note, read_fields(s, 5, &NOTE)),
-        Kind::Report => line_of(Kind::Report, read_fields(s, 7, &REPORT)),
-        Kind::Done => line_of(Kind::Done, read_fields(s, 5, &DONE)),
-        Kind::Attr => line_of(Kind::Attr, read_fields(s, 5, &ATTR)),
-        Kind::Wake => line_of(Kind::Wake, read_fields(s, 5, &WAKE)),
-        Kind::Other => Line::Bad,
-    }
+    let Some(kind) = kind_of(s) else {
+        return Line::Bad;
+    };
+    let Some(v) = read_fields(s, word_of(kind).len(), widths_of(kind)) else {
+        return Line::Bad;
+    };
+    line_with(kind, v)
 }
 
 // The line whose bytes are the first `n` of a buffer, or all of it where there are no more.
 pub fn read_held(held: &[u8], n: usize) -> Line
     ensures { result ≡ line_of (take n held.now) }
 {
-    if n <= held.len() {
-        return read_line(&held[..n]);
-    }
-    read_line(held)
+    read_line(&held[..n.min(held.len())])
 }
 
 // The kind whose word `s` begins with.
-fn kind_of(s: &[u8]) -> Kind
+fn kind_of(s: &[u8]) -> Option<Kind>
     ensures { result ≡ kind_of s.now }
 {
-    if starts(s, b"new,") {
-        return Kind::New;
-    }
-    if starts(s, b"add,") {
-        return Kind::Add;
-    }
-    if starts(s, b"note,") {
-        return Kind::Note;
-    }
-    if starts(s, b"report,") {
-        return Kind::Report;
-    }
-    if starts(s, b"done,") {
-        return Kind::Done;
-    }
-    if starts(s, b"attr,") {
-        return Kind::Attr;
-    }
-    if starts(s, b"wake,") {
-        return Kind::Wake;
-    }
-    Kind::Other
+    KINDS.iter().copied().find(|kind| starts(s, word_of(*kind)))
 }
 
-// Whether `s` begins with `word`.
+// Whether `s` begins with `word`, by document 01's word for it.
 pub fn starts(s: &[u8], word: &[u8]) -> bool
     ensures { result ≡ begins word.now s.now }
 {
-    let mut i: usize = 0;
-    while i < word.len() {
-        if s.len() <= i {
-            return false;
-        }
-        if s[i] != word[i] {
-            return false;
-        }
-        i += 1;
-    }
-    true
+    s.starts_with(word)
 }
 
-// The line of a kind, if its fields were all there.
-fn line_of(kind: Kind, n: Numbers) -> Line
-    requires { Fit (widths_of kind) n.at }
-    ensures { result ≡ made kind n }
+// The word of a kind, with its comma.
+fn word_of(kind: Kind) -> &'static [u8]
+    ensures { result.now ≡ word_of kind }
 {
-    if n.all {
-        let v = n.at;
-        return line_with(kind, v);
+    match kind {
+        Kind::New => b"new,",
+        Kind::Add => b"add,",
+        Kind::Note => b"note,",
+        Kind::Report => b"report,",
+        Kind::Done => b"done,",
+        Kind::Attr => b"attr,",
+        Kind::Wake => b"wake,",
     }
-    Line::Bad
 }
 
-// The line of a kind, with its numbers.
+// The widths of a kind's fields, in order.
+fn widths_of(kind: Kind) -> &'static [u64]
+    ensures { result.now ≡ widths_of kind }
+{
+    match kind {
+        Kind::New => &[BITS8],
+        Kind::Add => &[BITS64, BITS8, BITS64, BITS16, BITS16, BITS64, BITS16],
+        Kind::Note => &[BITS16, BITS32, BITS32],
+        Kind::Report => &[BITS64, BITS64, FLAG, FLAG],
+        Kind::Done => &[BITS32, BITS8],
+        Kind::Attr => &[BITS32, BITS16, BITS32, BITS32],
+        Kind::Wake => &[BITS64, FLAG],
+    }
+}
+
+// The line of a kind, with its numbers. Each is within its width, which is asked for: a cast loses nothing.
 fn line_with(kind: Kind, v: [u64; PLACES]) -> Line
     requires { Fit (widths_of kind) v }
     ensures { result ≡ filled kind v }
@@ -205,7 +183,6 @@ fn line_with(kind: Kind, v: [u64; PLACES]) -> Line
             events: v[0],
             icd: v[1] == FLAG,
         },
-        Kind::Other => Line::Bad,
     }
 }
 

@@ -1,15 +1,14 @@
--- The same searches and removals in an array of which the first places are held: one turn of a loop each.
+-- Removals in an array of which the first places are held, a turn of the sweep each.
 -- Assumes nothing.
 use mathlib.Core.Path.{sym, ◌∙◌, ◌≡◌, refl, ap}
 use mathlib.Core.Bool.{Bool, true, false}
 use mathlib.Core.List.{map, List, [], ◌∷◌, append-nil}
-use Prim.Native.Nat.{min, ℕ, zero, suc, ◌+◌, ◌-◌, ◌≤◌, ◌<◌}
+use Prim.Native.Nat.{ℕ, zero, suc, ◌+◌, ◌-◌, ◌≤◌, ◌<◌}
 use native.Mathlib.Omega.{arith}
 use native.Mathlib.Numerals.{add-one}
 use native.Mathlib.Nat.{le_of_suc-le-suc, not-suc-le-zero, le_refl}
-use lib.ListN.{length-map, drop, length, take, get_or, set}
-use lib.Seq.{take_all, slice, slice-cons, slice_empty, append_snoc, take-suc, take-set-le, length-take-le}
-use Rattle.lists.specs.Search.{least_by, one, count, first}
+use lib.ListN.{length-map, length, take, get_or, set}
+use lib.Seq.{slice, slice-cons, slice_empty, append_snoc, take-suc, take-set-le, length-take-le}
 use Rattle.lists.specs.Removal.{last_of, init_of, refilled, sweep_for, sweep, scanned}
 
 -- the length of an array that a struct holds, as the check tells it
@@ -17,10 +16,6 @@ pub full : {A B : Type 0} (f : A → B) (l : List A) {n : ℕ} → length (map f
 full f l h = sym (length-map l f) ∙ h
 
 module _ {A : Type 0} where
-  -- the whole of an array from a place on
-  pub slice_rest : (f t : ℕ) (l : List A) → length l ≡ t → slice f t l ≡ drop f l
-  slice_rest f t l e = rw (take_all t l (omega arith))
-
   -- the element at f is the next of those from f on
   pub slice_next : (f t : ℕ) (l : List A) (d : A) → f < t → t ≤ length l → slice f t l ≡ get_or l f d ∷ slice (f + 1) t l
   slice_next f t l d h k = rw add-one (slice-cons f t l d h k)
@@ -62,36 +57,7 @@ module _ {A : Type 0} where
       let e : n ≡ suc (n - 1) = omega arith in
       rw (hole_filled i (n - 1) l d (omega arith) (omega arith), add-one, ← e)
 
-  module _ (i n : ℕ) (l : List A) (d : A) (room : n ≤ length l) where
-    pub least_next : (f : A → ℕ) (m : ℕ) → i < n → least_by f m (slice i n l) ≡ min (f (get_or l i d)) (least_by f m (slice (i + 1) n l))
-    unfolding least_by
-    least_next f m h = rw (slice_next i n l d h room, least_by)
-
-    pub least_done : (f : A → ℕ) (m : ℕ) → i ≤ n → n ≤ i → least_by f m (slice i n l) ≡ m
-    unfolding least_by
-    least_done f m h k = rw (slice_done i n l h k)
-
   module _ (p : A → Bool) (i n : ℕ) (l : List A) (d : A) (room : n ≤ length l) where
-    pub count_next : i < n → count p (slice i n l) ≡ one (p (get_or l i d)) + count p (slice (i + 1) n l)
-    unfolding count
-    count_next h = rw (slice_next i n l d h room, count)
-
-    pub first_here : i < n → p (get_or l i d) ≡ true → first p (slice i n l) ≡ 0
-    unfolding first
-    first_here h e = rw (slice_next i n l d h room, e, first)
-
-    pub first_next : i < n → p (get_or l i d) ≡ false → first p (slice i n l) ≡ suc (first p (slice (i + 1) n l))
-    unfolding first
-    first_next h e = rw (slice_next i n l d h room, e, first)
-
-    pub first_done : i ≤ n → n ≤ i → first p (slice i n l) ≡ 0
-    unfolding first
-    first_done h k = rw (slice_done i n l h k)
-
-    pub count_done : i ≤ n → n ≤ i → count p (slice i n l) ≡ 0
-    unfolding count
-    count_done h k = rw (slice_done i n l h k)
-
     pub scan_out : i < n → p (get_or l i d) ≡ true → scanned p i n l ≡ scanned p i (n - 1) (set l i (get_or l (n - 1) d))
     unfolding scanned sweep_for
     scan_out h e =

@@ -7,3 +7,4 @@ pub mod Numbers
 pub mod Places
 pub mod Parts
 pub mod Maps
+pub mod Library

@@ -10,8 +10,7 @@ use lib.Dec.{ltb}
 use lib.ListN.{length, length-append}
 use Rattle.entries.specs.declared.ChangedAttr.{ChangedAttr}
 use Rattle.entries.specs.declared.Level.{Level}
-use Rattle.entries.specs.declared.Coarser.{Coarser}
-use Rattle.entries.specs.declared.Coarser.TheVariants.{To, Nothing}
+use Rattle.std.specs.Prelude.{Option, Some, None}
 use Rattle.notes.specs.declared.Group.{Group}
 use Rattle.lists.specs.Search.{count}
 use Rattle.lists.specs.Removal.{sweep}
@@ -25,9 +24,9 @@ abbrev Counted : List ChangedAttr → Group → Type 0
 Counted l g = (g.size ≡ count (under g.by) l) ⊎ (g.size ≤ 1)
 
 module _ (l : List ChangedAttr) where
-  sized_counted : (k : Coarser) → Counted l (sized l k)
-  sized_counted (To by) = inl refl
-  sized_counted Nothing = inr (omega arith)
+  sized_counted : (k : Option ChangedAttr) → Counted l (sized l k)
+  sized_counted (Some by) = inl refl
+  sized_counted None = inr (omega arith)
 
   larger_counted : (a b : Group) → Counted l a → Counted l b → Counted l (larger a b)
   unfolding larger

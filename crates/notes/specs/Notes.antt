@@ -1,11 +1,9 @@
--- What a note does to the list of entries, as document 01 has it, "Change held". The array that holds them is `Logs`' matter.
+-- What a note does to the list of entries, as document 01 has it, "Change held". The array that holds them is `Places`' matter.
 -- Assumes nothing.
-use Rattle.std.specs.Prelude.{Bool, cond, List, [], ◌∷◌, ◌++◌, ℕ, max, ltb, length}
+use Rattle.std.specs.Prelude.{Bool, cond, List, [], ◌∷◌, ◌++◌, ℕ, max, ltb, length, fold, Option, Some, None}
 use Rattle.entries.specs.declared.ChangedAttr.{ChangedAttr}
 use Rattle.entries.specs.declared.Level.{Level}
 use Rattle.entries.specs.declared.Level.TheVariants.{Cluster, Endpoint}
-use Rattle.entries.specs.declared.Coarser.{Coarser}
-use Rattle.entries.specs.declared.Coarser.TheVariants.{To, Nothing}
 use Rattle.notes.specs.declared.Group.{Group}
 use Rattle.lists.specs.Search.{some, count, change_first}
 use Rattle.lists.specs.Removal.{sweep}
@@ -24,9 +22,9 @@ unfoldable pub placed : ChangedAttr → List ChangedAttr → List ChangedAttr
 placed n l = cond (some (over n) l) (refreshed n l) (l ++ (n ∷ []))
 
 -- the candidate and how many of the entries it covers; no candidate covers none
-abbrev pub sized : List ChangedAttr → Coarser → Group
-sized l (To by) = record { by = by; size = count (under by) l }
-sized l Nothing = record { by = blank; size = 0 }
+abbrev pub sized : List ChangedAttr → Option ChangedAttr → Group
+sized l (Some by) = record { by = by; size = count (under by) l }
+sized l None = record { by = blank; size = 0 }
 
 -- the group that an entry stands for
 unfoldable pub group_of : Level → List ChangedAttr → ChangedAttr → Group
@@ -38,8 +36,7 @@ larger a b = cond (ltb a.size b.size) b a
 
 -- the winner among a group and those of the entries to come
 unfoldable pub largest_from : Level → List ChangedAttr → Group → List ChangedAttr → Group
-largest_from level l best [] = best
-largest_from level l best (x ∷ xs) = largest_from level l (larger best (group_of level l x)) xs
+largest_from level l best m = fold (λ b x. larger b (group_of level l x)) best m
 
 -- "The candidate covering most entries wins, at least two": a winner of size 1 is none
 unfoldable pub largest : Level → List ChangedAttr → Group

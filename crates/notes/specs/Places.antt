@@ -1,6 +1,6 @@
 -- The entries in their array of sixteen places. What a note does to them is said by `Notes`, on the list.
 -- Assumes nothing.
-use Rattle.std.specs.Prelude.{◌≡◌, Bool, List, ◌++◌, ℕ, ◌-◌, ◌≤◌, length, take, replicate}
+use Rattle.std.specs.Prelude.{Bool, List, ◌++◌, ℕ, ◌-◌, length, take, replicate}
 use Rattle.entries.specs.declared.ChangedAttr.{ChangedAttr}
 use Rattle.entries.specs.declared.Rule.{Rule}
 use Rattle.lists.specs.Search.{some}
@@ -32,9 +32,3 @@ held_without rule h = held_as (sweep (holds rule) (listed h))
 -- what is held after a note
 abbrev pub held_after : ChangedAttr → Held → Held
 held_after n h = held_as (entered n (listed h))
-
--- an array whose entries are l, whatever stands beyond them: what the steps of a note hand on
-pub record Holds (h : Held) (l : List ChangedAttr) : Type 0 where
-  pub lives : listed h ≡ l
-  pub counts : h.len ≡ length l
-  pub fits : h.len ≤ 16

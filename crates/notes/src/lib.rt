@@ -2,18 +2,22 @@
 // of it, so that every call is safe. Which identity a note takes, and which log is refused, is crate changes' matter.
 #![tactic(auto)]
 
-ghost use Rattle.std.specs.Prelude.{◌≡◌, [], ◌∷◌, ◌++◌, ◌≤◌, ◌<◌, max, set, get_or};
-ghost use Rattle.lists.specs.Search.{count, first};
+ghost use Rattle.std.specs.Prelude.{◌≡◌, List, [], ◌∷◌, ◌++◌, ◌≤◌, ◌<◌, length, take, set, get_or, position, max, fold, map, filter};
+ghost use Rattle.std.specs.List.{list_any};
+ghost use Rattle.lists.specs.Search.{count};
 ghost use Rattle.lists.specs.Removal.{sweep};
+ghost use Rattle.entries.specs.declared.ChangedAttr.{ChangedAttr};
 ghost use Rattle.entries.specs.Paths.{blank, all_wild, with_identity, under, holds};
-ghost use Rattle.notes.specs.Notes.{newest, placed, group_of, larger, largest, folded, crowded, entered};
-ghost use Rattle.notes.specs.Places.{listed, held_as, any_held, newest_held, held_without, held_after, Holds};
+ghost use Rattle.notes.specs.Notes.{placed, group_of, larger, largest, folded, crowded, entered};
+ghost use Rattle.notes.specs.Places.{listed, held_as, any_held, newest_held, held_without, held_after};
 
-use entries::{ChangedAttr, Coarser, Level, Rule};
+use entries::{ChangedAttr, Level, Rule};
+use std::marker::Model;
+use sweeping::sweep;
 
-// The entries are the first `len` of sixteen places.
+// The entries are the first `len` of sixteen places. The layout is C's, so that a host in another language can lend one.
 #[repr(C)]
-#[derive(Clone, Copy)]
+#[derive(Clone, Copy, PartialEq, Eq, Debug)]
 pub struct Held {
     pub entries: [ChangedAttr; 16],
     pub len: usize,
@@ -24,245 +28,224 @@ impl Held {
     pub fn any(self, rule: Rule) -> bool
         ensures { result ≡ any_held rule self }
     {
-        let held = bounded(self);
-        find(held, rule) < held.len
+        any_of(Entries::of(self).live(), rule)
     }
 
     // The greatest identity among the entries that meet the rule, or 0.
     pub fn newest(self, rule: Rule) -> u64
         ensures { result ≡ newest_held rule self }
     {
-        newest_of(bounded(self), rule)
+        newest_of(Entries::of(self).live(), rule)
     }
 
     // The entries that do not meet the rule, with blank places beyond them.
     pub fn without(self, rule: Rule) -> Self
         ensures { result ≡ held_without rule self }
     {
-        tidied(swept(bounded(self), rule))
+        let mut entries = Entries::of(self);
+        entries.sweep(rule);
+        entries.tidied()
     }
 
     // The entries after a note, with blank places beyond them.
     pub fn enter(self, new: ChangedAttr) -> Self
         ensures { result ≡ held_after new self }
     {
-        tidied(record_raw(bounded(self), new))
+        let mut entries = Entries::of(self);
+        entries.record_raw(new);
+        entries.tidied()
     }
 }
 
-// The same entries with a length within the array.
-fn bounded(held: Held) -> Held
-    ensures { Holds result (listed held) }
-{
-    if held.len <= 16 {
-        return held;
-    }
-    let mut all = held;
-    all.len = 16;
-    all
+// The entries that are held, in order: a list to all that is said of it, in an array of which a length says how much is in use.
+#[derive(Drop)]
+struct Entries {
+    places: [ChangedAttr; 16],
+    len: usize,
 }
 
-// The note among the entries: the first one that covers it takes its identity; else those that it covers make way for it.
-fn record_raw(held: Held, new: ChangedAttr) -> Held
-    requires { held.len ≤ 16 }
-    ensures { Holds result (entered new (listed held)) }
-{
-    let at = find(held, Rule::Over(new));
-    if at < held.len {
-        return refresh(held, at, new.identity);
-    }
-    let rest = swept(held, Rule::Under(new));
-    if rest.len < 16 {
-        return push(rest, new);
-    }
-    promote_and_insert(rest, new)
+impl Model for Entries {
+    ghost Value = { List ChangedAttr };
+
+    ghost view = { λ e. take e.len e.places };
+
+    ghost invariant = { λ e. e.len ≤ 16 };
 }
 
-// The note into a full array: the largest group of the finest level that has one becomes one entry, and there is room. Without a
-// group one entry says that everything has changed.
-fn promote_and_insert(held: Held, new: ChangedAttr) -> Held
-    requires { held.len ≤ 16 }
-    ensures { Holds result (crowded new (listed held)) }
-{
-    let fine = largest_group(held, Level::Cluster);
-    if 1 < fine.size {
-        return insert(promote(held, fine.by), new);
+impl Entries {
+    // A length beyond the array counts all of it.
+    fn of(held: Held) -> Self
+        ensures { result ≡ listed held }
+    {
+        let places = held.entries;
+        let len = held.len.min(16);
+        Entries { places, len }
     }
-    let coarse = largest_group(held, Level::Endpoint);
-    if 1 < coarse.size {
-        return insert(promote(held, coarse.by), new);
+
+    // The entries as a slice; there are at most sixteen.
+    fn live(&self) -> &[ChangedAttr]
+        ensures all { result.now ≡ self.now }
+        ensures few { length self.now ≤ 16 }
+    {
+        &self.places[..self.len]
     }
-    alone(held, new.identity)
+
+    // Blank places beyond the entries, so that equal entries are held in equal arrays.
+    fn tidied(mut self) -> Held
+        ensures { result ≡ held_as self }
+    {
+        let len = self.len;
+        self.places[len..].fill(ChangedAttr::BLANK);
+        let entries = self.places;
+        Held { entries, len }
+    }
+
+    // The note among the entries: the first one that covers it takes its identity; else those that it covers make way for it.
+    fn record_raw(&mut self, new: ChangedAttr)
+        ensures { self.new ≡ entered new self.old }
+    {
+        if let Some(at) = find(self.live(), Rule::Over(new)) {
+            self.refresh(at, new.identity);
+            return;
+        }
+        self.sweep(Rule::Under(new));
+        if self.live().len() < 16 {
+            self.push(new);
+            return;
+        }
+        self.promote_and_insert(new)
+    }
+
+    // The note into a full array: the largest group of the finest level that has one becomes one entry, and there is room. Without a
+    // group one entry says that everything has changed. The definition has a case for each of the two levels, and so has this.
+    fn promote_and_insert(&mut self, new: ChangedAttr)
+        ensures { self.new ≡ crowded new self.old }
+    {
+        let fine = largest_group(self.live(), Level::Cluster);
+        if 1 < fine.size {
+            self.promote(fine.by);
+            self.insert(new);
+            return;
+        }
+        let coarse = largest_group(self.live(), Level::Endpoint);
+        if 1 < coarse.size {
+            self.promote(coarse.by);
+            self.insert(new);
+            return;
+        }
+        self.stand_for_all(new.identity)
+    }
+
+    // The note where there is room and no entry that it covers.
+    fn insert(&mut self, new: ChangedAttr)
+        requires { length self.old < 16 }
+        ensures { self.new ≡ placed new self.old }
+    {
+        match find(self.live(), Rule::Over(new)) {
+            Some(at) => self.refresh(at, new.identity),
+            None => self.push(new),
+        }
+    }
+
+    // The entries that the coarser one covers become that one, with their greatest identity.
+    fn promote(&mut self, by: ChangedAttr)
+        requires { 1 < count (under by) self.old }
+        ensures { self.new ≡ folded by self.old }
+    {
+        let identity = newest_of(self.live(), Rule::Under(by));
+        self.sweep(Rule::Under(by));
+        self.push(ChangedAttr { identity, ..by })
+    }
+
+    // Without the entries that meet the rule: the last entry fills each hole and is looked at next.
+    fn sweep(&mut self, rule: Rule)
+        ensures { self.new ≡ sweep (holds rule) self.old }
+    {
+        let len = self.len;
+        self.len = sweep(&mut self.places[..len], |x| rule.meets(*x));
+    }
+
+    // The entry takes the identity. What a reborrow of the places tells of the store is what the proof cites.
+    fn refresh(&mut self, at: usize, identity: u64)
+        requires { at < length self.old }
+        ensures { self.new ≡ set self.old at (with_identity identity (get_or self.old at blank)) }
+    {
+        let places = &mut self.places;
+        places[at].identity = identity;
+    }
+
+    // The entry goes at the end.
+    fn push(&mut self, new: ChangedAttr)
+        requires { length self.old < 16 }
+        ensures { self.new ≡ self.old ++ (new ∷ []) }
+    {
+        self.places[self.len] = new;
+        self.len += 1;
+    }
+
+    // One entry that covers everything.
+    fn stand_for_all(&mut self, identity: u64)
+        ensures { self.new ≡ all_wild identity ∷ [] }
+    {
+        self.places[0] = ChangedAttr {
+            identity,
+            ..ChangedAttr::WILD
+        };
+        self.len = 1;
+    }
 }
 
-// A coarser entry, and how many entries it covers.
+// A coarser entry, and how many entries it covers. One of size 0 or 1 stands for no group: `larger` and `largest` compare sizes.
 #[derive(Clone, Copy)]
 pub struct Group {
     pub by: ChangedAttr,
     pub size: usize,
 }
 
-// The place of the first entry that meets the rule, or the number of entries where none does.
-fn find(held: Held, rule: Rule) -> usize
-    requires { held.len ≤ 16 }
-    ensures { result ≡ first (holds rule) (listed held) }
+// Whether some entry meets the rule.
+fn any_of(entries: &[ChangedAttr], rule: Rule) -> bool
+    ensures { result ≡ list_any (holds rule) entries.now }
 {
-    let n = held.len;
-    let mut i: usize = 0;
-    while i < n {
-        let x = held.entries[i];
-        if rule.meets(x) {
-            return i;
-        }
-        i += 1;
-    }
-    i
+    entries.iter().any(|x| rule.meets(*x))
+}
+
+// The place of the first entry that meets the rule.
+fn find(entries: &[ChangedAttr], rule: Rule) -> Option<usize>
+    ensures { result ≡ position (holds rule) entries.now }
+{
+    entries.iter().position(|x| rule.meets(*x))
 }
 
 // How many entries meet the rule.
-fn tally(held: Held, rule: Rule) -> usize
-    requires { held.len ≤ 16 }
-    ensures { result ≡ count (holds rule) (listed held) }
+#[tactic(auto, using(lists::proofs::Library::count_filter))]
+fn tally(entries: &[ChangedAttr], rule: Rule) -> usize
+    ensures { result ≡ count (holds rule) entries.now }
 {
-    let n = held.len;
-    let mut found: usize = 0;
-    let mut i: usize = 0;
-    while i < n {
-        let x = held.entries[i];
-        i += 1;
-        if rule.meets(x) {
-            found += 1;
-        }
-    }
-    found
+    entries.iter().filter(|x| rule.meets(**x)).count()
 }
 
-fn newest_of(held: Held, rule: Rule) -> u64
-    requires { held.len ≤ 16 }
-    ensures { result ≡ newest (holds rule) (listed held) }
+// The greatest identity of the entries that meet the rule, or 0, in the words of its chain; `newest_is` leads to document 01's.
+fn newest_of(entries: &[ChangedAttr], rule: Rule) -> u64
+    ensures { result ≡ fold max 0 (map (λ (x : ChangedAttr). x.identity) (filter (holds rule) entries.now)) }
 {
-    let n = held.len;
-    let mut most: u64 = 0;
-    let mut i: usize = 0;
-    while i < n {
-        let x = held.entries[i];
-        i += 1;
-        if rule.meets(x) {
-            most = greater(most, x.identity);
-        }
-    }
-    most
-}
-
-fn greater(a: u64, b: u64) -> u64
-    ensures { result ≡ max a b }
-{
-    if a <= b { b } else { a }
-}
-
-// Without the entries that meet the rule: the last entry fills each hole and is looked at next.
-fn swept(held: Held, rule: Rule) -> Held
-    requires { held.len ≤ 16 }
-    ensures { Holds result (sweep (holds rule) (listed held)) }
-{
-    let mut rest = held;
-    let mut n = rest.len;
-    let mut i: usize = 0;
-    while i < n {
-        let x = rest.entries[i];
-        if rule.meets(x) {
-            n -= 1;
-            let last = rest.entries[n];
-            rest.entries[i] = last;
-        } else {
-            i += 1;
-        }
-    }
-    rest.len = n;
-    rest
-}
-
-// The entry takes the identity.
-fn refresh(held: Held, at: usize, identity: u64) -> Held
-    requires { (held.len ≤ 16) × (at < held.len) }
-    ensures { Holds result (set (listed held) at (with_identity identity (get_or (listed held) at blank))) }
-{
-    let x = held.entries[at];
-    let mut after = held;
-    after.entries[at] = ChangedAttr {
-        identity: identity,
-        cluster: x.cluster,
-        attr: x.attr,
-        endpoint: x.endpoint,
-    };
-    after
-}
-
-// The entry goes at the end.
-fn push(held: Held, new: ChangedAttr) -> Held
-    requires { held.len < 16 }
-    ensures { Holds result (listed held ++ (new ∷ [])) }
-{
-    let n = held.len;
-    let mut after = held;
-    after.entries[n] = new;
-    after.len = n + 1;
-    after
-}
-
-// The note where there is room and no entry that it covers.
-fn insert(held: Held, new: ChangedAttr) -> Held
-    requires { held.len < 16 }
-    ensures { Holds result (placed new (listed held)) }
-{
-    let at = find(held, Rule::Over(new));
-    if at < held.len {
-        return refresh(held, at, new.identity);
-    }
-    push(held, new)
-}
-
-// The entries that the coarser one covers become that one, with their greatest identity.
-fn promote(held: Held, by: ChangedAttr) -> Held
-    requires { (held.len ≤ 16) × (1 < count (under by) (listed held)) }
-    ensures { Holds result (folded by (listed held)) }
-{
-    let identity = newest_of(held, Rule::Under(by));
-    let rest = swept(held, Rule::Under(by));
-    push(
-        rest,
-        ChangedAttr {
-            identity: identity,
-            cluster: by.cluster,
-            attr: by.attr,
-            endpoint: by.endpoint,
-        },
-    )
-}
-
-// One entry that covers everything.
-fn alone(held: Held, identity: u64) -> Held
-    ensures { Holds result (all_wild identity ∷ []) }
-{
-    let mut wild = ChangedAttr::WILD;
-    wild.identity = identity;
-    let mut after = held;
-    after.entries[0] = wild;
-    after.len = 1;
-    after
+    entries
+        .iter()
+        .filter(|x| rule.meets(**x))
+        .map(|x| x.identity)
+        .fold(0, |most, identity| most.max(identity))
 }
 
 // The group of an entry at the level; one of no size where it has none.
-fn group_of(held: Held, level: Level, x: ChangedAttr) -> Group
-    requires { held.len ≤ 16 }
-    ensures { result ≡ group_of level (listed held) x }
+#[tactic(auto, unfolding(crate::specs::Notes::group_of))]
+fn group_of(entries: &[ChangedAttr], level: Level, x: ChangedAttr) -> Group
+    ensures { result ≡ group_of level entries.now x }
 {
     match x.coarsen(level) {
-        Coarser::To(by) => Group {
-            by: by,
-            size: tally(held, Rule::Under(by)),
+        Some(by) => Group {
+            by,
+            size: tally(entries, Rule::Under(by)),
         },
-        Coarser::Nothing => Group {
+        None => Group {
             by: ChangedAttr::BLANK,
             size: 0,
         },
@@ -270,6 +253,7 @@ fn group_of(held: Held, level: Level, x: ChangedAttr) -> Group
 }
 
 // The larger group, the earlier one on a tie.
+#[tactic(auto, unfolding(crate::specs::Notes::larger))]
 fn larger_group(a: Group, b: Group) -> Group
     ensures { result ≡ larger a b }
 {
@@ -277,35 +261,15 @@ fn larger_group(a: Group, b: Group) -> Group
 }
 
 // The largest group at the level; one of size 1 where none covers two entries.
-fn largest_group(held: Held, level: Level) -> Group
-    requires { held.len ≤ 16 }
-    ensures { result ≡ largest level (listed held) }
+#[tactic(auto, unfolding(crate::specs::Notes::largest, crate::specs::Notes::largest_from))]
+fn largest_group(entries: &[ChangedAttr], level: Level) -> Group
+    ensures { result ≡ largest level entries.now }
 {
-    let n = held.len;
-    let mut best = Group {
+    let none = Group {
         by: ChangedAttr::BLANK,
         size: 1,
     };
-    let mut i: usize = 0;
-    while i < n {
-        let x = held.entries[i];
-        i += 1;
-        let group = group_of(held, level, x);
-        best = larger_group(best, group);
-    }
-    best
-}
-
-// Blank places beyond the entries, so that equal entries are held in equal arrays.
-fn tidied(held: Held) -> Held
-    requires { held.len ≤ 16 }
-    ensures { result ≡ held_as (listed held) }
-{
-    let mut tidy = held;
-    let mut i = tidy.len;
-    while i < 16 {
-        tidy.entries[i] = ChangedAttr::BLANK;
-        i += 1;
-    }
-    tidy
+    entries.iter().fold(none, |best, x| {
+        larger_group(best, group_of(entries, level, *x))
+    })
 }

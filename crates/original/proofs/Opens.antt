@@ -1,11 +1,10 @@
 -- The open ones: the slot `reporting` holds the one of them that is no priming, and a completion empties it exactly where it completes
 -- that one. At most one of them is the report, and no two have the same id.
 -- Assumes nothing.
+use Rattle.std.specs.Prelude.{Some, None}
 use mathlib.Core.Path.{◌≡◌, refl, sym, ap, ◌∙◌, fun_ext}
 use mathlib.Core.Bool.{Bool, true, false, cond}
 use mathlib.Core.List.{List, [], ◌∷◌, map}
-use mathlib.Core.Option.{none}
-use mathlib.Core.Option.{some as just}
 use Prim.Native.Nat.{ℕ, ◌+◌, ◌≤◌}
 use native.Mathlib.Omega.{arith}
 use Rattle.lists.specs.Search.{one, some, count, change_first, first_by}
@@ -31,12 +30,12 @@ holds_same id = fun_ext (λ x. sym (has_id_is id x))
 
 -- the context with the id is that of the open one with it
 pub context_found : (id : ℕ) (l : List Subscription) → some (has_id id) l ≡ true
-    → find (holds_id id) (map context_of l) ≡ just (context_of (first_by (has_id id) blank l))
+    → find (holds_id id) (map context_of l) ≡ Some (context_of (first_by (has_id id) blank l))
 context_found id l h =
     found_is (holds_id id) (context_of blank) (map context_of l)
-    ∙ ap (λ b. cond b (just (first_by (holds_id id) (context_of blank) (map context_of l))) none)
+    ∙ ap (λ b. cond b (Some (first_by (holds_id id) (context_of blank) (map context_of l))) None)
     (some_map context_of (holds_id id) l ∙ ap (λ p. some p l) (holds_same id) ∙ h)
-    ∙ ap just (first_map context_of (holds_id id) blank l ∙ ap (λ p. context_of (first_by p blank l)) (holds_same id))
+    ∙ ap Some (first_map context_of (holds_id id) blank l ∙ ap (λ p. context_of (first_by p blank l)) (holds_same id))
 
 pub context_taken : (id : ℕ) (l : List Subscription)
     → take_out_newest (holds_id id) (map context_of l) ≡ map context_of (take_out_newest (has_id id) l)
@@ -45,12 +44,12 @@ context_taken id l = newest_taken_map context_of (holds_id id) l ∙ ap (λ p. m
 -- ---- the slot
 
 -- a report opened is in it
-pub slot_report : (x : Subscription) (l : List Subscription) → is_report x ≡ true → reporting_of (x ∷ l) ≡ just (subscription_of x)
+pub slot_report : (x : Subscription) (l : List Subscription) → is_report x ≡ true → reporting_of (x ∷ l) ≡ Some (subscription_of x)
 unfolding reporting_of
-slot_report x l h = ap (λ b. cond b (just (subscription_of x)) (reporting_of l)) h
+slot_report x l h = ap (λ b. cond b (Some (subscription_of x)) (reporting_of l)) h
 
 -- with no report it is empty
-slot_empty : (l : List Subscription) → count is_report l ≡ 0 → reporting_of l ≡ none
+slot_empty : (l : List Subscription) → count is_report l ≡ 0 → reporting_of l ≡ None
 unfolding reporting_of count
 slot_empty [] h = refl
 slot_empty (x ∷ xs) h =
@@ -98,7 +97,7 @@ module _ (id : ℕ) where
   -- with another one in place of the one with the id
   slot_changed : (z : Subscription) (l : List Subscription) → some (has_id id) l ≡ true → one (is_report z) + count is_report l ≤ 1
       → reporting_of (change_first (has_id id) (λ y. z) l)
-      ≡ cond (is_report z) (just (subscription_of z)) (cond (is_report (first_by (has_id id) blank l)) none (reporting_of l))
+      ≡ cond (is_report z) (Some (subscription_of z)) (cond (is_report (first_by (has_id id) blank l)) None (reporting_of l))
   unfolding reporting_of some first_by count change_first
   slot_changed z [] h a = absurd (clash h refl)
   slot_changed z (x ∷ xs) h a =
@@ -118,7 +117,7 @@ module _ (id : ℕ) where
 
   -- taken out, it leaves the slot empty where it was the report, and as it was where it was a priming
   pub slot_taken : (l : List Subscription) → some (has_id id) l ≡ true → count is_report l ≤ 1
-      → reporting_of (take_out_newest (has_id id) l) ≡ cond (is_report (first_by (has_id id) blank l)) none (reporting_of l)
+      → reporting_of (take_out_newest (has_id id) l) ≡ cond (is_report (first_by (has_id id) blank l)) None (reporting_of l)
   unfolding reporting_of some first_by count take_out_newest
   slot_taken [] h a = absurd (clash h refl)
   slot_taken (x ∷ xs) h a =
@@ -132,8 +131,8 @@ module _ (id : ℕ) where
       (λ u. first_counts (has_id id) is_report xs (rw t at h) (omega (arith, one_yes u)))))
     where
       turned : (b f : Bool) → (b ≡ true → f ≡ false)
-          → cond b (just (subscription_of x)) (cond f none (reporting_of xs))
-          ≡ cond f none (cond b (just (subscription_of x)) (reporting_of xs))
+          → cond b (Some (subscription_of x)) (cond f None (reporting_of xs))
+          ≡ cond f None (cond b (Some (subscription_of x)) (reporting_of xs))
       turned true true e = absurd (clash refl (e refl))
       turned true false e = refl
       turned false true e = refl

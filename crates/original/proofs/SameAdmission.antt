@@ -1,9 +1,9 @@
 -- New, add, resume and note: the Rust does what the machine does.
 -- Assumes nothing.
+use Rattle.std.specs.Prelude.{None}
 use mathlib.Core.Path.{◌≡◌, refl, sym, ap, ◌∙◌}
 use mathlib.Core.Bool.{true, false}
 use mathlib.Core.List.{[], ◌∷◌, ◌++◌, map, map-append}
-use mathlib.Core.Option.{none}
 use Prim.Native.Nat.{ℕ, ◌+◌}
 use native.Mathlib.Omega.{arith}
 use lib.Dec.{leb}
@@ -62,7 +62,7 @@ module _ (s : State) (fit : Fit s) where
   -- ---- admission
 
   module _ (request : Request) (events : ℕ) where
-    pub add_same : (now : Instant) → first_of (objections (call.add request events now) s) ≡ none
+    pub add_same : (now : Instant) → first_of (objections (call.add request events now) s) ≡ None
         → call_on (call.add request events now) (original_of s) ≡ reply_of (act (call.add request events now) s)
     unfolding call_on add_with_id original_of reporting_of context_of subscription_of
     add_same now e =
@@ -99,7 +99,7 @@ module _ (s : State) (fit : Fit s) where
     unfolding returned set_keep subscription_of
     resumed_back id = rw (marked, resumed_is request id (watermark_of s.log) events)
 
-    pub resume_same : (id : ℕ) → first_of (objections (call.resume id request events) s) ≡ none
+    pub resume_same : (id : ℕ) → first_of (objections (call.resume id request events) s) ≡ None
         → call_on (call.resume id request events) (original_of s) ≡ reply_of (act (call.resume id request events) s)
     unfolding call_on add_with_id original_of report_complete set_keep
     resume_same id e =

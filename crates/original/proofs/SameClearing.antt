@@ -1,10 +1,9 @@
 -- Remove, clear and purge: the Rust does what the machine does.
 -- Assumes nothing.
+use Rattle.std.specs.Prelude.{Option, Some, None}
 use mathlib.Core.Path.{◌≡◌, refl, sym, ap, ◌∙◌, fun_ext}
 use mathlib.Core.Bool.{Bool, true, false, cond, not, ◌&&◌, ◌||◌, or-false}
 use mathlib.Core.List.{List, [], ◌∷◌, map}
-use mathlib.Core.Option.{Option, none}
-use mathlib.Core.Option.{some as just}
 use Prim.Native.Nat.{ℕ, suc, ◌+◌, ◌≤◌}
 use native.Mathlib.Omega.{arith}
 use borrow.Author.Tests.{lt-ltb, le-ltb, ltb-true, ltb-false}
@@ -46,7 +45,7 @@ use Rattle.original.proofs.Vectors.{least_is}
 
 module _ (f : Subscription → Bool) (q : one.Subscription → Bool) (same : (x : one.Subscription) → f (subscription_of x) ≡ q x) where
   -- the report matches exactly where an open one does that is no priming: there is at most one
-  slot_matches : (l : List one.Subscription) → count is_report l ≤ 1 → cancels f (reporting_of l) none ≡ some (λ x. is_report x && q x) l
+  slot_matches : (l : List one.Subscription) → count is_report l ≤ 1 → cancels f (reporting_of l) None ≡ some (λ x. is_report x && q x) l
   unfolding reporting_of some count
   slot_matches [] h = refl
   slot_matches (x ∷ xs) h = go (is_report x) refl (slot_matches xs)
@@ -57,8 +56,8 @@ module _ (f : Subscription → Bool) (q : one.Subscription → Bool) (same : (x 
           (none_counted is_report (λ x. is_report x && q x) xs (λ y e. and_left (is_report y) (q y) e) (none_count is_report xs z))
 
       go : (b : Bool) → is_report x ≡ b
-          → (count is_report xs ≤ 1 → cancels f (reporting_of xs) none ≡ some (λ x. is_report x && q x) xs)
-          → cancels f (cond b (just (subscription_of x)) (reporting_of xs)) none ≡ ((b && q x) || some (λ x. is_report x && q x) xs)
+          → (count is_report xs ≤ 1 → cancels f (reporting_of xs) None ≡ some (λ x. is_report x && q x) xs)
+          → cancels f (cond b (Some (subscription_of x)) (reporting_of xs)) None ≡ ((b && q x) || some (λ x. is_report x && q x) xs)
       go true e ih = same x ∙ sym (or-false (q x)) ∙ ap (λ b. q x || b) (sym (alone (omega (arith, one_yes e))))
       go false e ih = ih (omega (arith, one_no e))
 
@@ -67,16 +66,16 @@ module _ (f : Subscription → Bool) (q : one.Subscription → Bool) (same : (x 
       → cancels f (reporting_of l) (cancelled_of n) ≡ (eqb n 0 && some (λ x. is_report x && q x) l)
   cancels_same n l h = split (eqb n 0) (λ t. rw t (slot_matches l h)) (λ t. rw t (go (reporting_of l)))
     where
-      go : (o : Option Subscription) → cancels f o (just n) ≡ false
-      go none = refl
-      go (just r) = refl
+      go : (o : Option Subscription) → cancels f o (Some n) ≡ false
+      go None = refl
+      go (Some r) = refl
 
 -- a reason is not 0, so that the cancellation can be told by its number
-reason_same : (b : Bool) (reason n : ℕ) → eqb reason 0 ≡ false → cond b (just reason) (cancelled_of n) ≡ cancelled_of (cond b reason n)
+reason_same : (b : Bool) (reason n : ℕ) → eqb reason 0 ≡ false → cond b (Some reason) (cancelled_of n) ≡ cancelled_of (cond b reason n)
 reason_same true reason n h = rw h
 reason_same false reason n h = refl
 
-pub remove_same : (s : State) → Sound s → (choice : Choice) (reason : ℕ) → first_of (objections (call.remove choice reason) s) ≡ none
+pub remove_same : (s : State) → Sound s → (choice : Choice) (reason : ℕ) → first_of (objections (call.remove choice reason) s) ≡ None
     → call_on (call.remove choice reason) (original_of s) ≡ reply_of (act (call.remove choice reason) s)
 unfolding call_on remove original_of
 remove_same s sound choice reason e =
@@ -132,7 +131,7 @@ kinds (x ∷ xs) = go (is_report x) (kinds xs)
     go true e = omega arith
     go false e = omega arith
 
-pub clear_same : (s : State) → Sound s → first_of (objections call.clear s) ≡ none
+pub clear_same : (s : State) → Sound s → first_of (objections call.clear s) ≡ None
     → call_on call.clear (original_of s) ≡ reply_of (act call.clear s)
 unfolding call_on clear original_of
 clear_same s sound e =

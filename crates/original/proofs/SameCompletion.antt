@@ -1,9 +1,9 @@
 -- A completion: what the Rust stores or drops when a context is dropped, and what it leaves of the slot and of the cancellation.
 -- Assumes nothing.
+use Rattle.std.specs.Prelude.{Option, None}
 use mathlib.Core.Path.{◌≡◌, refl, sym, ap, ◌∙◌}
 use mathlib.Core.Bool.{Bool, true, false, cond, not, ◌&&◌}
 use mathlib.Core.List.{[], ◌∷◌, ◌++◌, map, map-append}
-use mathlib.Core.Option.{Option, none}
 use Prim.Native.Nat.{ℕ, suc, ◌≤◌}
 use native.Mathlib.Omega.{arith}
 use borrow.Author.Tests.{eqb-true, lt-ltb, le-ltb, ltb-false, not-false}
@@ -37,7 +37,7 @@ use Rattle.original.proofs.SameSubscription.{keep_same, failed_same, said_id, re
 some_cancelled : (n : ℕ) → is_some (cancelled_of n) ≡ not (eqb n 0)
 some_cancelled n = split (eqb n 0) (λ t. rw t) (λ t. rw t)
 
-cancel_left : (b : Bool) (n : ℕ) → cond b none (cancelled_of n) ≡ cancelled_of (cond b 0 n)
+cancel_left : (b : Bool) (n : ℕ) → cond b None (cancelled_of n) ≡ cancelled_of (cond b 0 n)
 cancel_left true n = refl
 cancel_left false n = refl
 
@@ -45,8 +45,8 @@ cancel_left false n = refl
 
 complete_by : (c : ReportContext) (t : Subscriptions) (b : Bool) → owns_slot c.subscription.id t.reporting ≡ b
     → report_complete c t
-    ≡ put_back (b && is_some t.reporting_cancelled) c.keep (returned c) (cond b none t.reporting)
-    (cond b none t.reporting_cancelled) t
+    ≡ put_back (b && is_some t.reporting_cancelled) c.keep (returned c) (cond b None t.reporting)
+    (cond b None t.reporting_cancelled) t
 unfolding report_complete
 complete_by c t true e = rw e
 complete_by c t false e = rw e
@@ -165,7 +165,7 @@ module _ (s : State) (id o : ℕ) (sound : Sound s) (good : o ≤ 4) (found : so
       ∙ ap (λ b. reply (call.completed b said_so.report_failed) (original_of ended)) kept_same
       ∙ ap (λ b. reply (call.completed (stays x o s) b) (original_of ended)) (failed_same x o good))
 
-pub complete_same : (s : State) → Sound s → (id o : ℕ) → first_of (objections (call.complete id o) s) ≡ none
+pub complete_same : (s : State) → Sound s → (id o : ℕ) → first_of (objections (call.complete id o) s) ≡ None
     → call_on (call.complete id o) (original_of s) ≡ reply_of (act (call.complete id o) s)
 unfolding call_on complete original_of
 complete_same s sound id o e =

@@ -2,15 +2,11 @@
 -- Assumes nothing.
 use mathlib.Core.Path.{◌≡◌, refl, sym, ◌∙◌, fun_ext}
 use mathlib.Core.Bool.{Bool, true, false, cond, not, ◌&&◌, ◌||◌, and_assoc}
-use mathlib.Core.Option.{Option, none}
-use mathlib.Core.Option.{some as just}
 use Prim.Native.Nat.{ℕ}
 use lib.Dec.{eqb, leb, ltb}
 use Rattle.entries.specs.declared.ChangedAttr.{ChangedAttr}
 use Rattle.entries.specs.declared.Level.{Level}
 use Rattle.entries.specs.declared.Level.TheVariants.{Cluster, Endpoint}
-use Rattle.entries.specs.declared.Coarser.{Coarser}
-use Rattle.entries.specs.declared.Coarser.TheVariants.{To, Nothing}
 use Rattle.entries.specs.Paths as paths
 use Rattle.entries.specs.Paths.{entry, wild_endpoint, wild_cluster, wild_attr, field_covers, over, under, up_to, above, since, candidate}
 use Rattle.entries.proofs.Covering.{over_covers, under_covers, up_to_at, above_at, field_covers_at, covers_at, field_matches_at, since_at, candidate_cluster, candidate_endpoint}
@@ -69,18 +65,7 @@ abbrev pub number : Level → ℕ
 number Cluster = 1
 number Endpoint = 2
 
-abbrev pub as_option : Coarser → Option ChangedAttr
-as_option (To by) = just by
-as_option Nothing = none
-
-either : (b : Bool) (by : ChangedAttr) → cond b none (just by) ≡ as_option (cond b Nothing (To by))
-either true by = refl
-either false by = refl
-
-pub coarsen_same : (level : Level) (x : ChangedAttr) → coarsen (number level) x ≡ as_option (candidate level x)
+pub coarsen_same : (level : Level) (x : ChangedAttr) → coarsen (number level) x ≡ candidate level x
 unfolding coarsen
-coarsen_same Cluster x =
-    rw (candidate_cluster x)
-    (either (eqb x.endpoint wild_endpoint || eqb x.cluster wild_cluster) (entry x.endpoint x.cluster wild_attr 0))
-coarsen_same Endpoint x =
-    rw (candidate_endpoint x) (either (eqb x.endpoint wild_endpoint) (entry x.endpoint wild_cluster wild_attr 0))
+coarsen_same Cluster x = sym (candidate_cluster x)
+coarsen_same Endpoint x = sym (candidate_endpoint x)

@@ -1,25 +1,22 @@
 -- A fold: the largest group that the Rust finds is the candidate of document 01 that covers most, and the loop that collapses it is a sweep
 -- that keeps the greatest identity.
 -- Assumes nothing.
+use Rattle.std.specs.Prelude.{Option, Some, None, slice_get}
 use mathlib.Core.Path.{◌≡◌, refl, sym, ap, ◌∙◌}
 use mathlib.Core.Bool.{Bool, true, false, cond}
 use mathlib.Core.List.{List, [], ◌∷◌}
-use mathlib.Core.Option.{Option, none}
-use mathlib.Core.Option.{some as just}
 use Prim.Native.Nat.{ℕ, zero, suc, ◌≤◌, ◌<◌, max}
 use native.Mathlib.Omega.{arith}
 use native.Mathlib.Nat.{le_refl}
 use borrow.Author.Tests.{ltb-true, ltb-false, lt-ltb, le-ltb}
 use lib.Dec.{ltb}
-use lib.ListN.{length, get_elem?}
+use lib.ListN.{length}
 use Rattle.lists.specs.Search.{count}
 use Rattle.lists.specs.Removal.{last_of, init_of, refilled, sweep_for, sweep}
 use Rattle.lists.proofs.Bools.{split}
 use Rattle.lists.proofs.Removals.{length_refilled}
 use Rattle.entries.specs.declared.ChangedAttr.{ChangedAttr}
 use Rattle.entries.specs.declared.Level.{Level}
-use Rattle.entries.specs.declared.Coarser.{Coarser}
-use Rattle.entries.specs.declared.Coarser.TheVariants.{To, Nothing}
 use Rattle.entries.specs.Paths.{blank, under, candidate}
 use Rattle.notes.specs.declared.Group.{Group}
 use Rattle.notes.specs.Notes.{sized, largest_from, largest, newest, folded}
@@ -28,7 +25,7 @@ use Rattle.original.specs.Std.{swap_remove}
 use Rattle.original.specs.Entries.{covers, coarsen}
 use Rattle.original.specs.Log.{best_pivot, collapse, coarsened_by, promoted, promote_largest_group}
 use Rattle.original.proofs.Vectors.{swap_first, swap_later}
-use Rattle.original.proofs.SameEntries.{under_same, number, as_option, coarsen_same}
+use Rattle.original.proofs.SameEntries.{under_same, number, coarsen_same}
 
 -- ---- the loop that collapses a group
 
@@ -41,17 +38,17 @@ module _ (by : ChangedAttr) where
   abbrev greater : ℕ → ChangedAttr → ℕ
   greater m x = cond (ltb m x.identity) x.identity m
 
-  collapse_past : (n i m : ℕ) (l : List ChangedAttr) → get_elem? l i ≡ none → collapse n by i m l ≡ (m, l)
+  collapse_past : (n i m : ℕ) (l : List ChangedAttr) → slice_get l i ≡ None → collapse n by i m l ≡ (m, l)
   unfolding collapse
   collapse_past zero i m l e = refl
   collapse_past (suc n) i m l e = rw (e, collapse)
 
-  collapse_out : (n i m : ℕ) (l : List ChangedAttr) {x : ChangedAttr} → get_elem? l i ≡ just x → covers by x ≡ true
+  collapse_out : (n i m : ℕ) (l : List ChangedAttr) {x : ChangedAttr} → slice_get l i ≡ Some x → covers by x ≡ true
       → collapse (suc n) by i m l ≡ collapse n by i (greater m x) (swap_remove i l)
   unfolding collapse
   collapse_out n i m l e t = rw (e, collapse) (rw t)
 
-  collapse_stays : (n i m : ℕ) (l : List ChangedAttr) {x : ChangedAttr} → get_elem? l i ≡ just x → covers by x ≡ false
+  collapse_stays : (n i m : ℕ) (l : List ChangedAttr) {x : ChangedAttr} → slice_get l i ≡ Some x → covers by x ≡ false
       → collapse (suc n) by i m l ≡ collapse n by (suc i) m l
   unfolding collapse
   collapse_stays n i m l e t = rw (e, collapse) (rw t)
@@ -60,13 +57,13 @@ module _ (by : ChangedAttr) where
   unfolding collapse
   collapse_later zero i m x l = refl
   collapse_later (suc n) i m x [] = refl
-  collapse_later (suc n) i m x (y ∷ ys) = go (get_elem? (y ∷ ys) i) refl (collapse_later n)
+  collapse_later (suc n) i m x (y ∷ ys) = go (slice_get (y ∷ ys) i) refl (collapse_later n)
     where
-      go : (o : Option ChangedAttr) → get_elem? (y ∷ ys) i ≡ o
+      go : (o : Option ChangedAttr) → slice_get (y ∷ ys) i ≡ o
           → ((i m : ℕ) (x : ChangedAttr) (l : List ChangedAttr) → collapse n by (suc i) m (x ∷ l) ≡ behind x (collapse n by i m l))
           → collapse (suc n) by (suc i) m (x ∷ y ∷ ys) ≡ behind x (collapse (suc n) by i m (y ∷ ys))
-      go none e ih = rw (collapse_past (suc n) (suc i) m (x ∷ y ∷ ys) e, collapse_past (suc n) i m (y ∷ ys) e)
-      go (just z) e ih =
+      go None e ih = rw (collapse_past (suc n) (suc i) m (x ∷ y ∷ ys) e, collapse_past (suc n) i m (y ∷ ys) e)
+      go (Some z) e ih =
           split (covers by z)
           (λ t. collapse_out n (suc i) m (x ∷ y ∷ ys) e t
           ∙ ap (collapse n by (suc i) (greater m z)) (swap_later i x y ys)
@@ -134,51 +131,51 @@ module _ (by : ChangedAttr) where
 module _ (level : Level) (l : List ChangedAttr) where
   -- the best pivot so far, coarsened, is the best candidate so far; none is a candidate of size 1
   abbrev Agrees : ℕ → Option ChangedAttr → Group → Type 0
-  Agrees c none best = (best.size ≡ c) × (c ≡ 1)
-  Agrees c (just pivot) best = (best.size ≡ c) × ((1 < c) × (coarsen (number level) pivot ≡ just best.by))
+  Agrees c None best = (best.size ≡ c) × (c ≡ 1)
+  Agrees c (Some pivot) best = (best.size ≡ c) × ((1 < c) × (coarsen (number level) pivot ≡ Some best.by))
 
   at_least : (c : ℕ) (b : Option ChangedAttr) (best : Group) → Agrees c b best → 1 ≤ c
-  at_least c none best h = omega (arith, h.1)
-  at_least c (just pivot) best h = omega (arith, h.1.0)
+  at_least c None best h = omega (arith, h.1)
+  at_least c (Some pivot) best h = omega (arith, h.1.0)
 
   same_size : (c : ℕ) (b : Option ChangedAttr) (best : Group) → Agrees c b best → best.size ≡ c
-  same_size c none best h = h.0
-  same_size c (just pivot) best h = h.0
+  same_size c None best h = h.0
+  same_size c (Some pivot) best h = h.0
 
   pivot_is : (rest : List ChangedAttr) (c : ℕ) (b : Option ChangedAttr) (best : Group) → Agrees c b best
       → coarsened_by (number level) (best_pivot (number level) l rest c b)
-      ≡ cond (ltb 1 (largest_from level l best rest).size) (just (largest_from level l best rest).by) none
+      ≡ cond (ltb 1 (largest_from level l best rest).size) (Some (largest_from level l best rest).by) None
   unfolding best_pivot
-  pivot_is [] c none best h = rw (largest_over level l best, h.0, h.1)
-  pivot_is [] c (just pivot) best h = rw (largest_over level l best, h.0, lt-ltb 1 c h.1.0) h.1.1
+  pivot_is [] c None best h = rw (largest_over level l best, h.0, h.1)
+  pivot_is [] c (Some pivot) best h = rw (largest_over level l best, h.0, lt-ltb 1 c h.1.0) h.1.1
   pivot_is (x ∷ rest) c b best h =
       rw (largest_more level l best x rest) (go (candidate level x) (coarsen_same level x) (pivot_is rest))
     where
-      go : (k : Coarser) → coarsen (number level) x ≡ as_option k
+      go : (k : Option ChangedAttr) → coarsen (number level) x ≡ k
           → ((c : ℕ) (b : Option ChangedAttr) (best : Group) → Agrees c b best
           → coarsened_by (number level) (best_pivot (number level) l rest c b)
-          ≡ cond (ltb 1 (largest_from level l best rest).size) (just (largest_from level l best rest).by) none)
+          ≡ cond (ltb 1 (largest_from level l best rest).size) (Some (largest_from level l best rest).by) None)
           → coarsened_by (number level) (best_pivot (number level) l (x ∷ rest) c b)
           ≡ cond (ltb 1 (largest_from level l (cond (ltb best.size (sized l k).size) (sized l k) best) rest).size)
-          (just (largest_from level l (cond (ltb best.size (sized l k).size) (sized l k) best) rest).by) none
-      go Nothing e ih = rw (e, le-ltb c 0 (omega arith), le-ltb best.size 0 (omega arith), best_pivot) (ih c b best h)
-      go (To by) e ih =
+          (Some (largest_from level l (cond (ltb best.size (sized l k).size) (sized l k) best) rest).by) None
+      go None e ih = rw (e, le-ltb c 0 (omega arith), le-ltb best.size 0 (omega arith), best_pivot) (ih c b best h)
+      go (Some by) e ih =
           let size = ap (λ p. count p l) (under_same by) in
           let best-size = ap (λ n. ltb n (count (under by) l)) (same_size c b best h) in
           split (ltb c (count (under by) l))
           (λ t. rw (e, size, t, best-size ∙ t, best_pivot)
           (rw (e, size)
-          (ih (count (under by) l) (just x) (sized l (To by))
+          (ih (count (under by) l) (Some x) (sized l (Some by))
           (refl, (omega (arith, at_least c b best h, ltb-true c (count (under by) l) t), e)))))
           (λ t. rw (e, size, t, best-size ∙ t, best_pivot) (ih c b best h))
 
   -- one fold: the group goes and its candidate comes to the end, or there is none
-  pub group_is : promote_largest_group (number level) l ≡ cond (ltb 1 (largest level l).size) (just (folded (largest level l).by l)) none
+  pub group_is : promote_largest_group (number level) l ≡ cond (ltb 1 (largest level l).size) (Some (folded (largest level l).by l)) None
   unfolding promote_largest_group
   group_is =
-      rw (pivot_is l 1 none (record { by = blank; size = 1 }) (refl, refl), ← largest_is level l)
+      rw (pivot_is l 1 None (record { by = blank; size = 1 }) (refl, refl), ← largest_is level l)
       (go (ltb 1 (largest level l).size) (largest level l).by)
     where
-      go : (b : Bool) (by : ChangedAttr) → promoted (cond b (just by) none) l ≡ cond b (just (folded by l)) none
+      go : (b : Bool) (by : ChangedAttr) → promoted (cond b (Some by) None) l ≡ cond b (Some (folded by l)) None
       go true by = rw (collapse_is by l, folded_is by l)
       go false by = refl

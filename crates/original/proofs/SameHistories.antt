@@ -1,10 +1,9 @@
 -- Demand 2: on every history of the domain the original and the machine go alike. A call acts in both, or both refuse it for a full table.
 -- Assumes nothing.
+use Rattle.std.specs.Prelude.{Option, Some, None}
 use mathlib.Core.Path.{◌≡◌, refl, sym, ap, ◌∙◌}
 use mathlib.Core.Bool.{Bool, true, false}
 use mathlib.Core.List.{List, [], ◌∷◌}
-use mathlib.Core.Option.{Option, none}
-use mathlib.Core.Option.{some as just}
 use Prim.Native.Nat.{ℕ}
 use native.Mathlib.Omega.{arith}
 use Rattle.refusal.specs.declared.Refusal.{Refusal}
@@ -39,7 +38,7 @@ use Rattle.original.proofs.SameRounds.{round_same}
 
 -- ---- a call that is not refused
 
-act_same : (op : Op) (s : State) → Fit s → lives late_retry s ≡ 0 → first_of (objections op s) ≡ none
+act_same : (op : Op) (s : State) → Fit s → lives late_retry s ≡ 0 → first_of (objections op s) ≡ None
     → call_on op (original_of s) ≡ reply_of (act op s)
 act_same (call.new capacity) s fit early e = new_same s fit capacity
 act_same (call.add request events now) s fit early e = add_same s fit request events now e
@@ -62,11 +61,11 @@ act_same (call.round at os ids) s fit early e = round_same s fit at os ids e
 -- ---- a call that is refused with 1
 
 -- where no objection of a call has the number 1, it is not refused so
-never_full : {l : List Objection} (k : List Objection) → l ≡ k → of_number 1 k ≡ false → first_of l ≡ just Full → ⊥
+never_full : {l : List Objection} (k : List Objection) → l ≡ k → of_number 1 k ≡ false → first_of l ≡ Some Full → ⊥
 never_full k e h f = clash (ap (λ l. numbered 1 (first_of l)) (sym e) ∙ ap (numbered 1) f) (no_number 1 k h)
 
 -- of an admission the first objection is the fabric, the second the full table
-full_second : (a b c : Bool) → first_of ((a, BadArgument) ∷ (b, Full) ∷ (c, IdLive) ∷ []) ≡ just Full → b ≡ true
+full_second : (a b c : Bool) → first_of ((a, BadArgument) ∷ (b, Full) ∷ (c, IdLive) ∷ []) ≡ Some Full → b ≡ true
 full_second a true c e = refl
 full_second true false c e =
     let f = first_holds {b = true} BadArgument ((false, Full) ∷ (c, IdLive) ∷ []) refl in
@@ -84,7 +83,7 @@ full_second false false false e =
     ∙ first_none in
     let z : ◌≡◌ {A = ℕ} 0 1 = cc in absurd (omega arith)
 
-full_same : (op : Op) (s : State) → Fit s → first_of (objections op s) ≡ just Full
+full_same : (op : Op) (s : State) → Fit s → first_of (objections op s) ≡ Some Full
     → call_on op (original_of s) ≡ reply (call.refused Full) (original_of s)
 full_same (call.add request events now) s fit e =
     add_full s fit request events now (full_second _ _ _ (ap first_of (sym (add_objects s request events now)) ∙ e))
@@ -116,19 +115,19 @@ step_same op s fit early h = go (refusal op s) refl
     objected : {r : Option Refusal} → refusal op s ≡ r → first_of (objections op s) ≡ r
     objected e = sym (refusal_kept op s (sound_kept s fit.sound)) ∙ e
 
-    stray : (why : Refusal) → refusal op s ≡ just why → strays (call.refused why) ≡ false
+    stray : (why : Refusal) → refusal op s ≡ Some why → strays (call.refused why) ≡ false
     stray why e = ap (λ r. strays r.answer) (sym (refused_alters_nothing op s why e)) ∙ h
 
     go : (r : Option Refusal) → refusal op s ≡ r → call_on op (original_of s) ≡ reply_of (step op s)
-    go none e = act_same op s fit early (objected e) ∙ ap reply_of (sym (unrefused_acts op s e))
-    go (just Full) e = full_same op s fit (objected e) ∙ ap reply_of (sym (refused_alters_nothing op s Full e))
-    go (just NotOpen) e = absurd (clash refl (stray NotOpen e))
-    go (just ReportOpen) e = absurd (clash refl (stray ReportOpen e))
-    go (just IdLive) e = absurd (clash refl (stray IdLive e))
-    go (just BadArgument) e = absurd (clash refl (stray BadArgument e))
-    go (just PrimingOpen) e = absurd (clash refl (stray PrimingOpen e))
-    go (just NotWellKept) e = absurd (clash refl (stray NotWellKept e))
-    go (just BadLine) e = absurd (clash refl (stray BadLine e))
+    go None e = act_same op s fit early (objected e) ∙ ap reply_of (sym (unrefused_acts op s e))
+    go (Some Full) e = full_same op s fit (objected e) ∙ ap reply_of (sym (refused_alters_nothing op s Full e))
+    go (Some NotOpen) e = absurd (clash refl (stray NotOpen e))
+    go (Some ReportOpen) e = absurd (clash refl (stray ReportOpen e))
+    go (Some IdLive) e = absurd (clash refl (stray IdLive e))
+    go (Some BadArgument) e = absurd (clash refl (stray BadArgument e))
+    go (Some PrimingOpen) e = absurd (clash refl (stray PrimingOpen e))
+    go (Some NotWellKept) e = absurd (clash refl (stray NotWellKept e))
+    go (Some BadLine) e = absurd (clash refl (stray BadLine e))
 
 -- ---- a history of the domain
 

@@ -1,11 +1,10 @@
 -- A note and a purge: what the Rust leaves of the log is what document 01 says.
 -- After one fold there is room, so that the loop of promote_and_insert ends in its second turn.
 -- Assumes nothing.
+use Rattle.std.specs.Prelude.{Some, None}
 use mathlib.Core.Path.{◌≡◌, refl, sym, ap, ◌∙◌}
 use mathlib.Core.Bool.{true, false, cond}
 use mathlib.Core.List.{List, [], ◌∷◌, ◌++◌}
-use mathlib.Core.Option.{none}
-use mathlib.Core.Option.{some as just}
 use Prim.Native.Nat.{ℕ, suc, ◌+◌, ◌≤◌, ◌<◌, max}
 use native.Mathlib.Omega.{arith}
 use borrow.Author.Tests.{ltb-true, ltb-false, lt-ltb, le-ltb, eqb-true, eqb-false}
@@ -39,17 +38,17 @@ use Rattle.original.proofs.SameGroups.{group_is}
 
 module _ (n : ChangedAttr) where
   -- the first entry that covers the note takes its identity, if there is one
-  refresh_is : (l : List ChangedAttr) → refresh n l ≡ cond (some (over n) l) (just (refreshed n l)) none
+  refresh_is : (l : List ChangedAttr) → refresh n l ≡ cond (some (over n) l) (Some (refreshed n l)) None
   refresh_is l =
       found_changed (λ x. covers x n) (with_change_id n.identity) l
-      ∙ ap (λ p. cond (some p l) (just (change_first p (with_identity n.identity) l)) none) (over_same n)
-      ∙ ap (λ m. cond (some (over n) l) (just m) none) (sym (refreshed_is n l))
+      ∙ ap (λ p. cond (some p l) (Some (change_first p (with_identity n.identity) l)) None) (over_same n)
+      ∙ ap (λ m. cond (some (over n) l) (Some m) None) (sym (refreshed_is n l))
 
-  pushed : (l : List ChangedAttr) → length l < 16 → push 16 n l ≡ just (l ++ (n ∷ []))
+  pushed : (l : List ChangedAttr) → length l < 16 → push 16 n l ≡ Some (l ++ (n ∷ []))
   unfolding push
   pushed l h = rw (lt-ltb (length l) 16 h, push)
 
-  not_pushed : (l : List ChangedAttr) → 16 ≤ length l → push 16 n l ≡ none
+  not_pushed : (l : List ChangedAttr) → 16 ≤ length l → push 16 n l ≡ None
   unfolding push
   not_pushed l h = rw (le-ltb (length l) 16 h, push)
 
@@ -71,13 +70,13 @@ module _ (n : ChangedAttr) where
       (λ t. turn_pushes f l t h ∙ placed_new n l t)
 
   turn_folds : (f : ℕ) (l fewer : List ChangedAttr) → some (over n) l ≡ false → 16 ≤ length l
-      → or_promote (promote_largest_group 1 l) (promote_largest_group 2 l) ≡ just fewer
+      → or_promote (promote_largest_group 1 l) (promote_largest_group 2 l) ≡ Some fewer
       → promote_and_insert (suc f) n l ≡ promote_and_insert f n fewer
   unfolding promote_and_insert
   turn_folds f l fewer t h e = rw (refresh_is l, t, promote_and_insert) (rw (not_pushed l h) (rw e))
 
   turn_gives_up : (f : ℕ) (l : List ChangedAttr) → some (over n) l ≡ false → 16 ≤ length l
-      → or_promote (promote_largest_group 1 l) (promote_largest_group 2 l) ≡ none → promote_and_insert (suc f) n l ≡ all_wild n.identity ∷ []
+      → or_promote (promote_largest_group 1 l) (promote_largest_group 2 l) ≡ None → promote_and_insert (suc f) n l ≡ all_wild n.identity ∷ []
   unfolding promote_and_insert
   turn_gives_up f l t h e = rw (refresh_is l, t, promote_and_insert) (rw (not_pushed l h) (rw e))
 
@@ -164,13 +163,13 @@ module _ (g : changes.ChangedAttrs) (k : kept g ≡ true) where
   watermark_is low = let on : 0 < g.next = lt_of_le-ne (omega arith) (λ z. kept_next g k (sym z)) in omega arith
 
 -- the Rust's wider notes are notes with wild fields
-pub cluster_note : (e c : ℕ) (g : ChangedAttrs) → record_wildcard (just e) (just c) g ≡ record_concrete e c wildcard_attr g
+pub cluster_note : (e c : ℕ) (g : ChangedAttrs) → record_wildcard (Some e) (Some c) g ≡ record_concrete e c wildcard_attr g
 cluster_note e c g = refl
 
-pub endpoint_note : (e : ℕ) (g : ChangedAttrs) → record_wildcard (just e) none g ≡ record_concrete e wildcard_cluster wildcard_attr g
+pub endpoint_note : (e : ℕ) (g : ChangedAttrs) → record_wildcard (Some e) None g ≡ record_concrete e wildcard_cluster wildcard_attr g
 endpoint_note e g = refl
 
-pub global_note : (g : ChangedAttrs) → record_wildcard none none g ≡ record_concrete wildcard_endpoint wildcard_cluster wildcard_attr g
+pub global_note : (g : ChangedAttrs) → record_wildcard None None g ≡ record_concrete wildcard_endpoint wildcard_cluster wildcard_attr g
 global_note g = refl
 
 -- ---- questions

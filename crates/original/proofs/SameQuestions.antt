@@ -1,10 +1,9 @@
 -- The questions: the Rust answers what the machine answers.
 -- Assumes nothing.
+use Rattle.std.specs.Prelude.{Some, None}
 use mathlib.Core.Path.{◌≡◌, refl, sym, ap, ◌∙◌, fun_ext}
 use mathlib.Core.Bool.{Bool, true, false, cond, ◌&&◌, ◌||◌, and_assoc}
 use mathlib.Core.List.{List, [], ◌∷◌, map}
-use mathlib.Core.Option.{none}
-use mathlib.Core.Option.{some as just}
 use Prim.Native.Nat.{ℕ, ◌-◌}
 use native.Mathlib.Omega.{arith}
 use borrow.Author.Tests.{ltb-false, not-false}
@@ -51,10 +50,10 @@ module _ (s : State) where
 
   module _ (id : ℕ) where
     -- the objection that nobody has the id
-    found_open : first_of ((not_open id s, NotOpen) ∷ []) ≡ none → some (has_id id) s.opens ≡ true
+    found_open : first_of ((not_open id s, NotOpen) ∷ []) ≡ None → some (has_id id) s.opens ≡ true
     found_open e = not-false _ (unobjected _ _ _ e).0
 
-    pub attribute_same : (e c a : ℕ) → first_of (objections (call.attribute id e c a) s) ≡ none
+    pub attribute_same : (e c a : ℕ) → first_of (objections (call.attribute id e c a) s) ≡ None
         → call_on (call.attribute id e c a) (original_of s) ≡ reply_of (act (call.attribute id e c a) s)
     unfolding call_on original_of should_report_attr context_of subscription_of
     attribute_same e c a unobjected-to =
@@ -70,7 +69,7 @@ module _ (s : State) where
         go true = refl
         go false = refl
 
-    pub send_same : (kind : KeepAlive) → first_of (objections (call.send_if_empty id kind) s) ≡ none
+    pub send_same : (kind : KeepAlive) → first_of (objections (call.send_if_empty id kind) s) ≡ None
         → call_on (call.send_if_empty id kind) (original_of s) ≡ reply_of (act (call.send_if_empty id kind) s)
     unfolding call_on original_of should_send_if_empty context_of
     send_same kind unobjected-to =
@@ -99,7 +98,7 @@ module _ (s : State) where
       go : (l : List one.Subscription) → map_some instant_at (iter_min (map (λ x. report_due_at x Icd) (map subscription_of l))) ≡ keep_alive_in l
       go [] = sym alive_none
       go (x ∷ xs) =
-          ap (λ n. just (instant_at n))
+          ap (λ n. Some (instant_at n))
           (least_is subscription_of (λ y. report_due_at y Icd) (report_due_at (subscription_of x) Icd) xs ∙ ap (λ f. least_by f (f x) xs) due)
           ∙ sym (alive_some x xs)
 

@@ -1,10 +1,9 @@
 -- The loop of `remove`, which searches from the front again after each removal, is one sweep, and it counts what it removes.
 -- Assumes nothing.
+use Rattle.std.specs.Prelude.{Option, Some, None}
 use mathlib.Core.Path.{◌≡◌, refl, sym, ap, ◌∙◌}
 use mathlib.Core.Bool.{Bool, true, false, ◌||◌, or-true, or-false}
 use mathlib.Core.List.{List, [], ◌∷◌}
-use mathlib.Core.Option.{Option, none}
-use mathlib.Core.Option.{some as just}
 use Prim.Native.Nat.{ℕ, zero, suc, ◌+◌, ◌≤◌}
 use native.Mathlib.Omega.{arith}
 use native.Mathlib.Nat.{le_refl}
@@ -31,12 +30,12 @@ abbrev without : ℕ → Removal → Removal
 without i r = standing (wrapping_sub 64 r.subscriptions_count 1) (swap_remove i r.subscriptions) true
 
 module _ (f : Subscription → Bool) where
-  stops : (n : ℕ) (r : Removal) → position f r.subscriptions ≡ none → remove_loop n f r ≡ r
+  stops : (n : ℕ) (r : Removal) → position f r.subscriptions ≡ None → remove_loop n f r ≡ r
   unfolding remove_loop
   stops zero r e = refl
   stops (suc n) r e = rw (e, remove_loop)
 
-  goes_on : (n i : ℕ) (r : Removal) → position f r.subscriptions ≡ just i → remove_loop (suc n) f r ≡ remove_loop n f (without i r)
+  goes_on : (n i : ℕ) (r : Removal) → position f r.subscriptions ≡ Some i → remove_loop (suc n) f r ≡ remove_loop n f (without i r)
   unfolding remove_loop
   goes_on n i r e = rw (e, remove_loop)
 
@@ -44,11 +43,11 @@ module _ (f : Subscription → Bool) where
   unfolding position
   later x l e = rw (e, position)
 
-  none_left : position f [] ≡ none
+  none_left : position f [] ≡ None
   unfolding position
   none_left = refl
 
-  nowhere : (i : ℕ) → position f [] ≡ just i → ⊥
+  nowhere : (i : ℕ) → position f [] ≡ Some i → ⊥
   nowhere i q = let e = none_left in let z : ◌≡◌ {A = ℕ} 0 1 = cc in omega arith
 
   -- one that stays is passed over at every search
@@ -60,17 +59,17 @@ module _ (f : Subscription → Bool) where
       go : (l : List Subscription) → r.subscriptions ≡ l → (o : Option ℕ) → position f r.subscriptions ≡ o
           → ((r : Removal) → remove_loop n f (behind x r) ≡ behind x (remove_loop n f r))
           → remove_loop (suc n) f (behind x r) ≡ behind x (remove_loop (suc n) f r)
-      go l d none q ih =
+      go l d None q ih =
           stops (suc n) (behind x r) (later x r.subscriptions e ∙ ap (map_some suc) q) ∙ ap (behind x) (sym (stops (suc n) r q))
-      go [] d (just i) q ih = absurd (nowhere i (sym (ap (position f) d) ∙ q))
-      go (y ∷ ys) d (just i) q ih =
+      go [] d (Some i) q ih = absurd (nowhere i (sym (ap (position f) d) ∙ q))
+      go (y ∷ ys) d (Some i) q ih =
           goes_on n (suc i) (behind x r) (later x r.subscriptions e ∙ ap (map_some suc) q)
           ∙ ap (λ l. remove_loop n f (standing (wrapping_sub 64 r.subscriptions_count 1) l true))
           (ap (λ l. swap_remove (suc i) (x ∷ l)) d ∙ swap_later i x y ys ∙ ap (λ l. x ∷ swap_remove i l) (sym d))
           ∙ ih (without i r)
           ∙ ap (behind x) (sym (goes_on n i r q))
 
-  found_first : (x : Subscription) (l : List Subscription) → f x ≡ true → position f (x ∷ l) ≡ just 0
+  found_first : (x : Subscription) (l : List Subscription) → f x ≡ true → position f (x ∷ l) ≡ Some 0
   unfolding position
   found_first x l e = rw (e, position)
 

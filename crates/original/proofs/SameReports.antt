@@ -1,10 +1,9 @@
 -- A report: the Rust finds the subscription that the machine hands out, by swap removal, and leaves its clone in the slot.
 -- Assumes nothing.
+use Rattle.std.specs.Prelude.{Some, None}
 use mathlib.Core.Path.{◌≡◌, refl, sym, ap, ◌∙◌, fun_ext}
 use mathlib.Core.Bool.{Bool, true, false, cond}
 use mathlib.Core.List.{◌∷◌, map}
-use mathlib.Core.Option.{none}
-use mathlib.Core.Option.{some as just}
 use native.Mathlib.Omega.{arith}
 use Rattle.lists.specs.Search.{some, first_by}
 use Rattle.lists.specs.Removal.{take_out}
@@ -48,12 +47,12 @@ module _ (at : Settings) (s : State) where
   -- the one found and what is left
   found_same : swap_removed (position test (map subscription_of s.stored)) (map subscription_of s.stored)
       ≡ cond (some (ready at s) s.stored)
-      (just (subscription_of (next_up at s), map subscription_of (take_out (ready at s) s.stored))) none
+      (Some (subscription_of (next_up at s), map subscription_of (take_out (ready at s) s.stored))) None
   found_same =
       first_removed test (subscription_of blank) (map subscription_of s.stored)
       ∙ rw (some_same, first_map subscription_of test blank s.stored, taken_map subscription_of test s.stored)
       (ap (λ p. cond (some (ready at s) s.stored)
-      (just (subscription_of (first_by p blank s.stored), map subscription_of (take_out p s.stored))) none) test_same)
+      (Some (subscription_of (first_by p blank s.stored), map subscription_of (take_out p s.stored))) None) test_same)
 
   -- whether anybody is reportable
   pub any_same : any_reportable at (original_of s) ≡ some (ready at s) s.stored
@@ -63,10 +62,10 @@ module _ (at : Settings) (s : State) where
   -- the table that has handed it out
   abbrev pub left : Subscriptions
   left =
-      with_inner (counted s) (map subscription_of (take_out (ready at s) s.stored)) (just (subscription_of (next_up at s)))
+      with_inner (counted s) (map subscription_of (take_out (ready at s) s.stored)) (Some (subscription_of (next_up at s)))
       (cancelled_of s.cancel) (original_of s)
 
-  pub report_none : some (ready at s) s.stored ≡ false → report at (original_of s) ≡ none
+  pub report_none : some (ready at s) s.stored ≡ false → report at (original_of s) ≡ None
   unfolding report original_of
   report_none e = rw (found_same, e)
 
@@ -77,9 +76,9 @@ module _ (at : Settings) (s : State) where
         rw (watermark_is s.log fit.sound.log fit.identities)
         (sym (opened_same (next_up at s) (watermark_of s.log) at.events at.now))
 
-    pub report_one : report at (original_of s) ≡ just (context_of (opened_in at s (next_up at s)), left)
+    pub report_one : report at (original_of s) ≡ Some (context_of (opened_in at s (next_up at s)), left)
     unfolding report original_of
-    report_one = rw (found_same, found) (ap (λ c. just (c, left)) context_same)
+    report_one = rw (found_same, found) (ap (λ c. Some (c, left)) context_same)
 
     -- the state after it
     abbrev handed : State
@@ -102,11 +101,11 @@ module _ (at : Settings) (s : State) where
     unfolding subscription_of
     opened_plain = rw (opened_is (next_up at s) (watermark_of s.log) at.events at.now)
 
-    slot_same : just (subscription_of (next_up at s)) ≡ reporting_of (opened_in at s (next_up at s) ∷ s.opens)
+    slot_same : Some (subscription_of (next_up at s)) ≡ reporting_of (opened_in at s (next_up at s) ∷ s.opens)
     slot_same =
         sym
         (slot_report (opened_in at s (next_up at s)) s.opens (opened_reporting (next_up at s) (watermark_of s.log) at.events at.now)
-        ∙ ap just opened_plain)
+        ∙ ap Some opened_plain)
 
     -- with the context in a caller's hands
     pub left_same : with_contexts (context_of (opened_in at s (next_up at s)) ∷ map context_of s.opens) left ≡ original_of handed

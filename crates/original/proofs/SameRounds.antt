@@ -1,9 +1,9 @@
 -- A round: turn by turn the Rust hands out and completes what the machine does.
 -- Assumes nothing.
+use Rattle.std.specs.Prelude.{None}
 use mathlib.Core.Path.{◌≡◌, sym, ap, ◌∙◌}
 use mathlib.Core.Bool.{true, false, not}
 use mathlib.Core.List.{List, [], ◌∷◌, map}
-use mathlib.Core.Option.{none}
 use Prim.Native.Nat.{ℕ, ◌+◌, ◌≤◌}
 use borrow.Author.Tests.{eq-eqb, ltb-false}
 use lib.ListN.{set}
@@ -101,7 +101,7 @@ turns_same at (o ∷ os) t fit shut good =
     ∙ ap turn_of (sym (round_goes_on at o os t f))))
     (λ f. rw (report_none at s f, turns) (ap turn_of (sym (round_falls_silent at o os t f))))
 
-pub round_same : (s : State) → Fit s → (at : Settings) (os ids : List ℕ) → first_of (objections (call.round at os ids) s) ≡ none
+pub round_same : (s : State) → Fit s → (at : Settings) (os ids : List ℕ) → first_of (objections (call.round at os ids) s) ≡ None
     → call_on (call.round at os ids) (original_of s) ≡ reply_of (act (call.round at os ids) s)
 unfolding call_on
 round_same s fit at os ids e =

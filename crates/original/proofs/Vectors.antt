@@ -1,14 +1,13 @@
 -- The Rust's ways with a vector against those of crate lists: a loop over an index with swap_remove is a sweep, position and find give the
 -- first one that a test holds of.
 -- Assumes nothing.
+use Rattle.std.specs.Prelude.{Option, Some, None, slice_get}
 use mathlib.Core.Path.{◌≡◌, refl, sym, ap, ◌∙◌}
 use mathlib.Core.Bool.{Bool, true, false, cond}
 use mathlib.Core.List.{List, [], ◌∷◌, map}
-use mathlib.Core.Option.{Option, none}
-use mathlib.Core.Option.{some as just}
 use Prim.Native.Nat.{ℕ, zero, suc, min}
 use native.Mathlib.Omega.{arith}
-use lib.ListN.{length, take, get_or, get_elem?}
+use lib.ListN.{length, take, get_or}
 use Rattle.lists.specs.Search.{some, change_first, first_by, least_by}
 use Rattle.lists.specs.Removal.{last_of, init_of, refilled, sweep_for, sweep, take_out}
 use Rattle.lists.proofs.Bools.{split}
@@ -47,17 +46,17 @@ module _ {A : Type 0} where
   while_nil zero p i = refl
   while_nil (suc n) p i = refl
 
-  while_past : (n : ℕ) (p : A → Bool) (i : ℕ) (l : List A) → get_elem? l i ≡ none → remove_while n p i l ≡ l
+  while_past : (n : ℕ) (p : A → Bool) (i : ℕ) (l : List A) → slice_get l i ≡ None → remove_while n p i l ≡ l
   unfolding remove_while
   while_past zero p i l e = refl
   while_past (suc n) p i l e = rw (e, remove_while)
 
-  while_out : (n : ℕ) (p : A → Bool) (i : ℕ) (l : List A) {x : A} → get_elem? l i ≡ just x → p x ≡ true
+  while_out : (n : ℕ) (p : A → Bool) (i : ℕ) (l : List A) {x : A} → slice_get l i ≡ Some x → p x ≡ true
       → remove_while (suc n) p i l ≡ remove_while n p i (swap_remove i l)
   unfolding remove_while
   while_out n p i l e t = rw (e, remove_while) (rw t)
 
-  while_stays : (n : ℕ) (p : A → Bool) (i : ℕ) (l : List A) {x : A} → get_elem? l i ≡ just x → p x ≡ false
+  while_stays : (n : ℕ) (p : A → Bool) (i : ℕ) (l : List A) {x : A} → slice_get l i ≡ Some x → p x ≡ false
       → remove_while (suc n) p i l ≡ remove_while n p (suc i) l
   unfolding remove_while
   while_stays n p i l e t = rw (e, remove_while) (rw t)
@@ -67,13 +66,13 @@ module _ {A : Type 0} where
   unfolding remove_while
   while_later zero p i x l = refl
   while_later (suc n) p i x [] = refl
-  while_later (suc n) p i x (y ∷ ys) = go (get_elem? (y ∷ ys) i) refl (while_later n p)
+  while_later (suc n) p i x (y ∷ ys) = go (slice_get (y ∷ ys) i) refl (while_later n p)
     where
-      go : (o : Option A) → get_elem? (y ∷ ys) i ≡ o
+      go : (o : Option A) → slice_get (y ∷ ys) i ≡ o
           → ((i : ℕ) (x : A) (l : List A) → remove_while n p (suc i) (x ∷ l) ≡ x ∷ remove_while n p i l)
           → remove_while (suc n) p (suc i) (x ∷ y ∷ ys) ≡ x ∷ remove_while (suc n) p i (y ∷ ys)
-      go none e ih = rw (while_past (suc n) p (suc i) (x ∷ y ∷ ys) e, while_past (suc n) p i (y ∷ ys) e)
-      go (just z) e ih =
+      go None e ih = rw (while_past (suc n) p (suc i) (x ∷ y ∷ ys) e, while_past (suc n) p i (y ∷ ys) e)
+      go (Some z) e ih =
           split (p z)
           (λ t. while_out n p (suc i) (x ∷ y ∷ ys) e t
           ∙ ap (remove_while n p (suc i)) (swap_later i x y ys)
@@ -106,28 +105,28 @@ module _ {A : Type 0} where
   removed_later : (x : A) (l : List A) (o : Option ℕ)
       → swap_removed (map_some suc o) (x ∷ l) ≡ map_some (behind x) (swap_removed o l)
   unfolding swap_remove
-  removed_later x l none = refl
-  removed_later x [] (just i) = refl
-  removed_later x (y ∷ ys) (just i) = go (get_elem? (y ∷ ys) i)
+  removed_later x l None = refl
+  removed_later x [] (Some i) = refl
+  removed_later x (y ∷ ys) (Some i) = go (slice_get (y ∷ ys) i)
     where
       go : (o : Option A)
           → removed_at o (swap_remove (suc i) (x ∷ y ∷ ys)) ≡ map_some (behind x) (removed_at o (swap_remove i (y ∷ ys)))
-      go none = refl
-      go (just z) = ap (λ l. just (z, l)) (swap_later i x y ys)
+      go None = refl
+      go (Some z) = ap (λ l. Some (z, l)) (swap_later i x y ys)
 
   -- the first that the test holds of is taken out
   pub first_removed : (p : A → Bool) (d : A) (l : List A)
-      → swap_removed (position p l) l ≡ cond (some p l) (just (first_by p d l, take_out p l)) none
+      → swap_removed (position p l) l ≡ cond (some p l) (Some (first_by p d l, take_out p l)) None
   unfolding position some first_by take_out
   first_removed p d [] = refl
   first_removed p d (x ∷ xs) =
       split (p x)
-      (λ t. rw (t, first_by, take_out) (ap (λ l. just (x, l)) (swap_first x xs)))
+      (λ t. rw (t, first_by, take_out) (ap (λ l. Some (x, l)) (swap_first x xs)))
       (λ t. rw (t, first_by, take_out) (removed_later x xs (position p xs) ∙ ap (map_some (behind x)) (first_removed p d xs) ∙ go (some p xs)))
     where
       go : (b : Bool)
-          → map_some (behind x) (cond b (just (first_by p d xs, take_out p xs)) none)
-          ≡ cond b (just (first_by p d xs, x ∷ take_out p xs)) none
+          → map_some (behind x) (cond b (Some (first_by p d xs, take_out p xs)) None)
+          ≡ cond b (Some (first_by p d xs, x ∷ take_out p xs)) None
       go true = refl
       go false = refl
 
@@ -137,17 +136,17 @@ module _ {A : Type 0} where
   position_some p (x ∷ xs) = split (p x) (λ t. rw t) (λ t. rw t (go (position p xs) ∙ position_some p xs))
     where
       go : (o : Option ℕ) → is_some (map_some suc o) ≡ is_some o
-      go none = refl
-      go (just i) = refl
+      go None = refl
+      go (Some i) = refl
 
   -- ---- find
 
-  pub found_is : (p : A → Bool) (d : A) (l : List A) → find p l ≡ cond (some p l) (just (first_by p d l)) none
+  pub found_is : (p : A → Bool) (d : A) (l : List A) → find p l ≡ cond (some p l) (Some (first_by p d l)) None
   unfolding find some first_by
   found_is p d [] = refl
   found_is p d (x ∷ xs) = split (p x) (λ t. rw (t, first_by)) (λ t. rw (t, first_by) (found_is p d xs))
 
-  pub found_changed : (p : A → Bool) (f : A → A) (l : List A) → find_mut p f l ≡ cond (some p l) (just (change_first p f l)) none
+  pub found_changed : (p : A → Bool) (f : A → A) (l : List A) → find_mut p f l ≡ cond (some p l) (Some (change_first p f l)) None
   unfolding find_mut some change_first
   found_changed p f [] = refl
   found_changed p f (x ∷ xs) =
@@ -156,7 +155,7 @@ module _ {A : Type 0} where
       (λ t. rw (t, change_first) (ap (map_some (λ l. x ∷ l)) (found_changed p f xs) ∙ go (some p xs)))
     where
       go : (b : Bool)
-          → map_some (λ l. x ∷ l) (cond b (just (change_first p f xs)) none) ≡ cond b (just (x ∷ change_first p f xs)) none
+          → map_some (λ l. x ∷ l) (cond b (Some (change_first p f xs)) None) ≡ cond b (Some (x ∷ change_first p f xs)) None
       go true = refl
       go false = refl
 

@@ -2,8 +2,7 @@
 -- is reports and completions at one instant. What only document 01 refuses is no matter of the Rust: a context that nobody holds cannot be
 -- asked.
 -- Assumes nothing.
-use Rattle.std.specs.Prelude.{Bool, true, false, cond, not, ◌&&◌, List, [], ◌∷◌, ℕ, ◌+◌, eqb, ltb, length, set}
-use Rattle.std.proofs.Math.Option.{Option, none, some as just}
+use Rattle.std.specs.Prelude.{Bool, true, false, cond, not, ◌&&◌, List, [], ◌∷◌, ℕ, ◌+◌, eqb, ltb, length, set, Option, Some, None}
 use Rattle.lists.specs.Removal.{take_out_newest}
 use Rattle.refusal.specs.declared.Refusal.TheVariants.{Full, NotOpen}
 use Rattle.instants.specs.declared.Instant.{Instant}
@@ -35,21 +34,21 @@ instant_at ms = record { ms = ms }
 
 -- `Subscriptions::add`: the caller holds the context
 abbrev pub added : Option (ReportContext × Subscriptions) → Subscriptions → Reply
-added none t = reply (call.refused Full) t
-added (just (c, counted)) t = reply (call.number c.subscription.id) (with_contexts (c ∷ counted.contexts) counted)
+added None t = reply (call.refused Full) t
+added (Some (c, counted)) t = reply (call.number c.subscription.id) (with_contexts (c ∷ counted.contexts) counted)
 
 -- one record of `load_persist`: `add_with_id`, `next_reported_at = Instant::MAX`, `set_keep`, and the context is dropped
 abbrev pub resumed : Option (ReportContext × Subscriptions) → Subscriptions → Reply
-resumed none t = reply (call.refused Full) t
-resumed (just (c, counted)) t =
+resumed None t = reply (call.refused Full) t
+resumed (Some (c, counted)) t =
     reply (call.number c.subscription.id) (report_complete (set_keep (with_next_reported_at instant_max c)) counted)
 
 -- ---- reports
 
 -- `Subscriptions::report`: the caller holds the context
 abbrev pub reported : Option (ReportContext × Subscriptions) → Subscriptions → Reply
-reported none t = reply call.nothing t
-reported (just (c, left)) t =
+reported None t = reply call.nothing t
+reported (Some (c, left)) t =
     reply (call.handed c.subscription.id c.subscription.rx) (with_contexts (c ∷ left.contexts) left)
 
 -- what the caller says before it drops the context: 0 sent, 1 unsent, 2 retry, 3 failed, 4 nothing
@@ -70,8 +69,8 @@ dropped c t =
 
 -- the caller says how its report ended, and drops the context that it holds
 abbrev pub completed : Option ReportContext → ℕ → ℕ → Subscriptions → Reply
-completed none id outcome t = reply (call.refused NotOpen) t
-completed (just c) id outcome t = dropped (said outcome c) (with_contexts (take_out_newest (holds_id id) t.contexts) t)
+completed None id outcome t = reply (call.refused NotOpen) t
+completed (Some c) id outcome t = dropped (said outcome c) (with_contexts (take_out_newest (holds_id id) t.contexts) t)
 
 -- by the id of the subscription
 unfoldable pub complete : ℕ → ℕ → Subscriptions → Reply
@@ -81,12 +80,12 @@ complete id outcome t = completed (find (holds_id id) t.contexts) id outcome t
 
 -- of the context of the subscription with the id
 abbrev pub asked : Option Bool → Answer
-asked none = call.refused NotOpen
-asked (just b) = call.yes_no b
+asked None = call.refused NotOpen
+asked (Some b) = call.yes_no b
 
 -- the fabric of `load_stats`, which has no fabric 0
 abbrev pub fabric_asked : ℕ → Option ℕ
-fabric_asked fabric = cond (eqb fabric 0) none (just fabric)
+fabric_asked fabric = cond (eqb fabric 0) None (Some fabric)
 
 -- the closures that `remove` is called with
 unfoldable pub takes : Choice → Subscription → Bool
@@ -116,7 +115,7 @@ turned outcome (c, left) t =
 -- "until Nothing or the outcomes end"
 unfoldable pub turns : Settings → List ℕ → Turn → Turn
 turns at [] t = t
-turns at (outcome ∷ rest) t = elim (report at t.table) [ none ↦ t | just r ↦ turns at rest (turned outcome r t) ]
+turns at (outcome ∷ rest) t = elim (report at t.table) [ None ↦ t | Some r ↦ turns at rest (turned outcome r t) ]
 
 -- how many were handed out, and whether nobody stored is reportable then
 abbrev pub rounded : Settings → Turn → Reply
@@ -127,8 +126,8 @@ rounded at t = reply (call.rounded t.hand_outs (not (any_reportable at t.table))
 -- A note is `notify_attr_changed`; `notify_cluster_changed`, `notify_endpoint_changed` and `notify_all_changed` are notes with wild fields.
 unfoldable pub call_on : Op → Subscriptions → Reply
 call_on (call.new capacity) t = reply (call.number capacity) (new_table capacity)
-call_on (call.add request events now) t = added (add_with_id none now.ms request events t) t
-call_on (call.resume id request events) t = resumed (add_with_id (just id) instant_min request events t) t
+call_on (call.add request events now) t = added (add_with_id None now.ms request events t) t
+call_on (call.resume id request events) t = resumed (add_with_id (Some id) instant_min request events t) t
 call_on (call.note endpoint cluster attr) t =
     reply (call.heard t.changed_attrs.next_change_id true) (with_log (record_concrete endpoint cluster attr t.changed_attrs) t)
 call_on (call.report at) t = reported (report at t) t

@@ -1,7 +1,6 @@
 -- `ChangedAttr` of subscriptions.rs, function by function: one entry of the log of changes. Its `change_id` is the identity.
 -- Assumes nothing.
-use Rattle.std.specs.Prelude.{Bool, true, false, cond, ◌&&◌, ◌||◌, ℕ, eqb}
-use Rattle.std.proofs.Math.Option.{Option, none, some as just}
+use Rattle.std.specs.Prelude.{Bool, true, false, cond, ◌&&◌, ◌||◌, ℕ, eqb, Option, Some, None}
 use Rattle.entries.specs.declared.ChangedAttr.{ChangedAttr}
 
 -- `WILDCARD_ENDPOINT`
@@ -58,7 +57,7 @@ covers x other =
 unfoldable pub coarsen : ℕ → ChangedAttr → Option ChangedAttr
 coarsen level x =
     cond (eqb level 1)
-    (cond (is_endpoint_wildcard x || is_cluster_wildcard x) none (just (concrete x.endpoint x.cluster wildcard_attr 0)))
+    (cond (is_endpoint_wildcard x || is_cluster_wildcard x) None (Some (concrete x.endpoint x.cluster wildcard_attr 0)))
     (cond (eqb level 2)
-    (cond (is_endpoint_wildcard x) none (just (concrete x.endpoint wildcard_cluster wildcard_attr 0)))
-    none)
+    (cond (is_endpoint_wildcard x) None (Some (concrete x.endpoint wildcard_cluster wildcard_attr 0)))
+    None)

@@ -1,7 +1,6 @@
 -- The map between the two states: the Rust's table for a state of document 01's machine, and back.
 -- Assumes nothing.
-use Rattle.std.specs.Prelude.{false, cond, List, [], ◌∷◌, map, ℕ, eqb}
-use Rattle.std.proofs.Math.Option.{Option, none, some as just}
+use Rattle.std.specs.Prelude.{false, cond, List, [], ◌∷◌, map, ℕ, eqb, Option, Some, None}
 use Rattle.changes.specs.declared.ChangedAttrs as changes
 use Rattle.changes.specs.Logs.{entries_of, holding}
 use Rattle.instants.specs.Instants.{instant, first_instant}
@@ -36,12 +35,12 @@ context_of x = context (subscription_of x) x.mark x.events x.opened.ms
 
 -- the clone of the one that is reported on: the open one that is no priming
 unfoldable pub reporting_of : List one.Subscription → Option Subscription
-reporting_of [] = none
-reporting_of (x ∷ xs) = cond (is_report x) (just (subscription_of x)) (reporting_of xs)
+reporting_of [] = None
+reporting_of (x ∷ xs) = cond (is_report x) (Some (subscription_of x)) (reporting_of xs)
 
 -- the reason of a cancelled report
 abbrev pub cancelled_of : ℕ → Option ℕ
-cancelled_of reason = cond (eqb reason 0) none (just reason)
+cancelled_of reason = cond (eqb reason 0) None (Some reason)
 
 -- the log, without the places that hold no entry
 unfoldable pub log_of : changes.ChangedAttrs → ChangedAttrs

@@ -1,8 +1,6 @@
 -- `ChangedAttrs` of subscriptions.rs, function by function: the log of changes.
 -- Assumes nothing.
-use Rattle.std.specs.Prelude.{Bool, true, false, cond, ◌&&◌, List, [], ◌∷◌, ◌++◌, ℕ, zero, suc, max, eqb, leb, ltb, length}
-use Rattle.std.proofs.Math.Option.{Option, none, some as just}
-use Rattle.std.proofs.Math.ListN.{get_elem?}
+use Rattle.std.specs.Prelude.{Bool, true, false, cond, ◌&&◌, List, [], ◌∷◌, ◌++◌, ℕ, zero, suc, max, eqb, leb, ltb, length, Option, Some, None, slice_get}
 use Rattle.lists.specs.Search.{some, count}
 use Rattle.entries.specs.declared.ChangedAttr.{ChangedAttr}
 use Rattle.original.specs.Std.{unwrap_or, wrapping_add, wrapping_sub, swap_remove, push, find_mut, remove_while}
@@ -50,15 +48,15 @@ clear_log g = record { next_change_id = g.next_change_id; entries = [] }
 
 -- how many entries the coarsened pivot covers; a pivot that cannot be coarsened is passed over
 abbrev pub covered : Option ChangedAttr → List ChangedAttr → ℕ
-covered none entries = 0
-covered (just coarsened) entries = count (covers coarsened) entries
+covered None entries = 0
+covered (Some coarsened) entries = count (covers coarsened) entries
 
 -- the loop over the pivots, with `best_count` and `best_pivot`
 unfoldable pub best_pivot : ℕ → List ChangedAttr → List ChangedAttr → ℕ → Option ChangedAttr → Option ChangedAttr
 best_pivot level entries [] best_count best = best
 best_pivot level entries (pivot ∷ rest) best_count best =
     elim (ltb best_count (covered (coarsen level pivot) entries)) [
-      | true ↦ best_pivot level entries rest (covered (coarsen level pivot) entries) (just pivot)
+      | true ↦ best_pivot level entries rest (covered (coarsen level pivot) entries) (Some pivot)
       | false ↦ best_pivot level entries rest best_count best
     ]
 
@@ -66,9 +64,9 @@ best_pivot level entries (pivot ∷ rest) best_count best =
 unfoldable pub collapse : ℕ → ChangedAttr → ℕ → ℕ → List ChangedAttr → ℕ × List ChangedAttr
 collapse zero coarsened i max_change_id entries = (max_change_id, entries)
 collapse (suc n) coarsened i max_change_id entries =
-    elim (get_elem? entries i) [
-      | none ↦ (max_change_id, entries)
-      | just x ↦ elim (covers coarsened x) [
+    elim (slice_get entries i) [
+      | None ↦ (max_change_id, entries)
+      | Some x ↦ elim (covers coarsened x) [
         | true ↦ collapse n coarsened i (cond (ltb max_change_id x.identity) x.identity max_change_id) (swap_remove i entries)
         | false ↦ collapse n coarsened (suc i) max_change_id entries
       ]
@@ -80,17 +78,17 @@ collapsed coarsened left = left.1 ++ (with_change_id left.0 coarsened ∷ [])
 
 -- the best pivot, coarsened
 abbrev pub coarsened_by : ℕ → Option ChangedAttr → Option ChangedAttr
-coarsened_by level none = none
-coarsened_by level (just pivot) = coarsen level pivot
+coarsened_by level None = None
+coarsened_by level (Some pivot) = coarsen level pivot
 
 -- its group collapsed
 abbrev pub promoted : Option ChangedAttr → List ChangedAttr → Option (List ChangedAttr)
-promoted none entries = none
-promoted (just coarsened) entries = just (collapsed coarsened (collapse (length entries) coarsened 0 0 entries))
+promoted None entries = None
+promoted (Some coarsened) entries = Some (collapsed coarsened (collapse (length entries) coarsened 0 0 entries))
 
 -- the entries after a promotion, or nothing where it answers false
 unfoldable pub promote_largest_group : ℕ → List ChangedAttr → Option (List ChangedAttr)
-promote_largest_group level entries = promoted (coarsened_by level (best_pivot level entries entries 1 none)) entries
+promote_largest_group level entries = promoted (coarsened_by level (best_pivot level entries entries 1 None)) entries
 
 -- ---- `ChangedAttrs::promote_and_insert`
 
@@ -100,20 +98,20 @@ refresh new entries = find_mut (λ x. covers x new) (with_change_id new.identity
 
 -- `!self.promote_largest_group(1) && !self.promote_largest_group(2)`: the entries after the one that promoted
 abbrev pub or_promote : Option (List ChangedAttr) → Option (List ChangedAttr) → Option (List ChangedAttr)
-or_promote none second = second
-or_promote (just entries) second = just entries
+or_promote None second = second
+or_promote (Some entries) second = Some entries
 
 -- its `loop`: the number is how many turns are left to it
 unfoldable pub promote_and_insert : ℕ → ChangedAttr → List ChangedAttr → List ChangedAttr
 promote_and_insert zero new entries = entries
 promote_and_insert (suc n) new entries =
     elim (refresh new entries) [
-      | just refreshed ↦ refreshed
-      | none ↦ elim (push max_changed_attrs new entries) [
-        | just pushed ↦ pushed
-        | none ↦ elim (or_promote (promote_largest_group 1 entries) (promote_largest_group 2 entries)) [
-          | just fewer ↦ promote_and_insert n new fewer
-          | none ↦ concrete wildcard_endpoint wildcard_cluster wildcard_attr new.identity ∷ []
+      | Some refreshed ↦ refreshed
+      | None ↦ elim (push max_changed_attrs new entries) [
+        | Some pushed ↦ pushed
+        | None ↦ elim (or_promote (promote_largest_group 1 entries) (promote_largest_group 2 entries)) [
+          | Some fewer ↦ promote_and_insert n new fewer
+          | None ↦ concrete wildcard_endpoint wildcard_cluster wildcard_attr new.identity ∷ []
         ]
       ]
     ]
@@ -124,8 +122,8 @@ promote_and_insert (suc n) new entries =
 unfoldable pub recorded : ChangedAttr → List ChangedAttr → List ChangedAttr
 recorded new entries =
     elim (refresh new entries) [
-      | just refreshed ↦ refreshed
-      | none ↦ unwrap_or (push max_changed_attrs new (remove_while (length entries) (covers new) 0 entries))
+      | Some refreshed ↦ refreshed
+      | None ↦ unwrap_or (push max_changed_attrs new (remove_while (length entries) (covers new) 0 entries))
           (promote_and_insert 17 new (remove_while (length entries) (covers new) 0 entries))
     ]
 

@@ -2,28 +2,26 @@
 -- milliseconds. Numbers have no width: a sum that wraps or saturates says at how many bits, and a cast that can lose no bit, by the type of
 -- what it casts, is left out.
 -- Assumes nothing.
-use Rattle.std.specs.Prelude.{Bool, true, false, cond, List, [], ◌∷◌, ◌++◌, ℕ, zero, suc, ◌+◌, ◌-◌, ◌*◌, ◌%◌, ◌^◌, min, leb, ltb, length, take, set, get_or}
-use Rattle.std.proofs.Math.Option.{Option, none, some as just}
-use Rattle.std.proofs.Math.ListN.{get_elem?}
+use Rattle.std.specs.Prelude.{Bool, true, false, cond, List, [], ◌∷◌, ◌++◌, ℕ, zero, suc, ◌+◌, ◌-◌, ◌*◌, ◌%◌, ◌^◌, min, leb, ltb, length, take, set, get_or, Option, Some, None, slice_get}
 
 -- ---- options
 
 module _ {A : Type 0} where
   -- `Option::unwrap_or`
   abbrev pub unwrap_or : Option A → A → A
-  unwrap_or none other = other
-  unwrap_or (just x) other = x
+  unwrap_or None other = other
+  unwrap_or (Some x) other = x
 
   -- `Option::is_some`
   abbrev pub is_some : Option A → Bool
-  is_some none = false
-  is_some (just x) = true
+  is_some None = false
+  is_some (Some x) = true
 
 module _ {A B : Type 0} where
   -- `Option::map`
   abbrev pub map_some : (A → B) → Option A → Option B
-  map_some f none = none
-  map_some f (just x) = just (f x)
+  map_some f None = None
+  map_some f (Some x) = Some (f x)
 
 -- ---- numbers
 
@@ -55,7 +53,7 @@ instant_max = 18446744073709551615
 
 -- `Instant::checked_add` of a `Duration::from_secs`
 unfoldable pub checked_add : ℕ → ℕ → Option ℕ
-checked_add at secs = cond (leb (at + secs * 1000) instant_max) (just (at + secs * 1000)) none
+checked_add at secs = cond (leb (at + secs * 1000) instant_max) (Some (at + secs * 1000)) None
 
 -- ---- vectors
 
@@ -67,30 +65,30 @@ module _ {A : Type 0} where
 
   -- `Vec::push` of a vector that holds at most so many
   unfoldable pub push : ℕ → A → List A → Option (List A)
-  push most x l = cond (ltb (length l) most) (just (l ++ (x ∷ []))) none
+  push most x l = cond (ltb (length l) most) (Some (l ++ (x ∷ []))) None
 
   -- `Iterator::position`
   unfoldable pub position : (A → Bool) → List A → Option ℕ
-  position p [] = none
-  position p (x ∷ xs) = cond (p x) (just 0) (map_some suc (position p xs))
+  position p [] = None
+  position p (x ∷ xs) = cond (p x) (Some 0) (map_some suc (position p xs))
 
   -- `Iterator::find`
   unfoldable pub find : (A → Bool) → List A → Option A
-  find p [] = none
-  find p (x ∷ xs) = cond (p x) (just x) (find p xs)
+  find p [] = None
+  find p (x ∷ xs) = cond (p x) (Some x) (find p xs)
 
   -- `if let Some(x) = v.iter_mut().find(p) { *x = f(x) }`: the vector then, or nothing where none is found
   unfoldable pub find_mut : (A → Bool) → (A → A) → List A → Option (List A)
-  find_mut p f [] = none
-  find_mut p f (x ∷ xs) = cond (p x) (just (f x ∷ xs)) (map_some (λ l. x ∷ l) (find_mut p f xs))
+  find_mut p f [] = None
+  find_mut p f (x ∷ xs) = cond (p x) (Some (f x ∷ xs)) (map_some (λ l. x ∷ l) (find_mut p f xs))
 
   -- `while i < v.len() { if p(&v[i]) { v.swap_remove(i); } else { i += 1; } }`: the first number is how many turns are left to it
   unfoldable pub remove_while : ℕ → (A → Bool) → ℕ → List A → List A
   remove_while zero p i l = l
   remove_while (suc n) p i l =
-      elim (get_elem? l i) [
-        | none ↦ l
-        | just x ↦ elim (p x) [ true ↦ remove_while n p i (swap_remove i l) | false ↦ remove_while n p (suc i) l ]
+      elim (slice_get l i) [
+        | None ↦ l
+        | Some x ↦ elim (p x) [ true ↦ remove_while n p i (swap_remove i l) | false ↦ remove_while n p (suc i) l ]
       ]
 
 -- `Iterator::min`, under way
@@ -100,5 +98,5 @@ min_from least (n ∷ ns) = min_from (min least n) ns
 
 -- `Iterator::min`
 abbrev pub iter_min : List ℕ → Option ℕ
-iter_min [] = none
-iter_min (n ∷ ns) = just (min_from n ns)
+iter_min [] = None
+iter_min (n ∷ ns) = Some (min_from n ns)

@@ -1,9 +1,7 @@
 -- `Subscriptions` and `SubscriptionsInner` of subscriptions.rs, function by function: the table. The contexts that callers hold stand
 -- beside it. Nothing is refused but what the Rust refuses.
 -- Assumes nothing.
-use Rattle.std.specs.Prelude.{Bool, true, false, cond, ◌&&◌, ◌||◌, List, [], ◌∷◌, ◌++◌, map, ℕ, zero, suc, ◌+◌, ◌-◌, max, eqb, leb, ltb, length}
-use Rattle.std.proofs.Math.Option.{Option, none, some as just}
-use Rattle.std.proofs.Math.ListN.{get_elem?}
+use Rattle.std.specs.Prelude.{Bool, true, false, cond, ◌&&◌, ◌||◌, List, [], ◌∷◌, ◌++◌, map, ℕ, zero, suc, ◌+◌, ◌-◌, max, eqb, leb, ltb, length, Option, Some, None, slice_get}
 use Rattle.lists.specs.Search.{some, count}
 use Rattle.time.specs.declared.KeepAlive.{KeepAlive}
 use Rattle.time.specs.declared.KeepAlive.TheVariants.{Icd}
@@ -37,8 +35,8 @@ new_table capacity =
       subscriptions_count = 0;
       subscriptions = [];
       changed_attrs = new_log;
-      reporting = none;
-      reporting_cancelled = none;
+      reporting = None;
+      reporting_cancelled = None;
       contexts = [];
     }
 
@@ -120,9 +118,9 @@ counting id t =
 -- a context for the first report and the table, or nothing where it is full
 unfoldable pub add_with_id : Option ℕ → ℕ → Request → ℕ → Subscriptions → Option (ReportContext × Subscriptions)
 add_with_id asked now request events t =
-    cond (leb t.capacity t.subscriptions_count) none
+    cond (leb t.capacity t.subscriptions_count) None
     (let id : ℕ = unwrap_or asked t.next_subscription_id in
-    just (context (fresh id request t.changed_attrs) (watermark t.changed_attrs) events now, counting id t))
+    Some (context (fresh id request t.changed_attrs) (watermark t.changed_attrs) events now, counting id t))
 
 -- ---- `Subscriptions::report`, without its debug assertions that no report is open: a second one takes the slot
 
@@ -134,21 +132,21 @@ find_reportable at t =
 module _ {A : Type 0} where
   -- the one at a place, if there is one, and what is left
   abbrev pub removed_at : Option A → List A → Option (A × List A)
-  removed_at none l = none
-  removed_at (just x) l = just (x, l)
+  removed_at None l = None
+  removed_at (Some x) l = Some (x, l)
 
   -- `vector.swap_remove(index)` of a place that was found: the one removed, and what is left
   abbrev pub swap_removed : Option ℕ → List A → Option (A × List A)
-  swap_removed none l = none
-  swap_removed (just index) l = removed_at (get_elem? l index) (swap_remove index l)
+  swap_removed None l = None
+  swap_removed (Some index) l = removed_at (slice_get l index) (swap_remove index l)
 
 -- a context for the subscription found and the table that has its clone in `reporting`, or nothing
 abbrev pub handed_out : Settings → Subscriptions → Option (Subscription × List Subscription) → Option (ReportContext × Subscriptions)
-handed_out at t none = none
-handed_out at t (just (s, others)) =
-    just (
+handed_out at t None = None
+handed_out at t (Some (s, others)) =
+    Some (
       context s (watermark t.changed_attrs) at.events at.now.ms,
-      with_inner t.subscriptions_count others (just s) t.reporting_cancelled t,
+      with_inner t.subscriptions_count others (Some s) t.reporting_cancelled t,
     )
 
 -- the first that is reportable
@@ -160,8 +158,8 @@ report at t = handed_out at t (swap_removed (find_reportable at t) t.subscriptio
 
 -- `self.reporting.as_ref().is_some_and(|reporting| reporting.ids.id == sub.ids.id)`
 abbrev pub owns_slot : ℕ → Option Subscription → Bool
-owns_slot id none = false
-owns_slot id (just reporting) = eqb reporting.id id
+owns_slot id None = false
+owns_slot id (Some reporting) = eqb reporting.id id
 
 -- dropped or put back, with `reporting` and `reporting_cancelled` as they are left
 abbrev pub put_back : Bool → Bool → Subscription → Option Subscription → Option ℕ → Subscriptions → Subscriptions
@@ -176,7 +174,7 @@ put_back cancelled keep s reporting reporting_cancelled t =
 unfoldable pub report_complete : ReportContext → Subscriptions → Subscriptions
 report_complete c t =
     cond (owns_slot c.subscription.id t.reporting)
-    (put_back (is_some t.reporting_cancelled) c.keep (returned c) none none t)
+    (put_back (is_some t.reporting_cancelled) c.keep (returned c) None None t)
     (put_back false c.keep (returned c) t.reporting t.reporting_cancelled t)
 
 -- ---- `Subscriptions::remove`
@@ -192,8 +190,8 @@ unfoldable pub remove_loop : ℕ → (Subscription → Bool) → Removal → Rem
 remove_loop zero f r = r
 remove_loop (suc n) f r =
     elim (position f r.subscriptions) [
-      | none ↦ r
-      | just index ↦ remove_loop n f
+      | None ↦ r
+      | Some index ↦ remove_loop n f
           (record {
             subscriptions_count = wrapping_sub 64 r.subscriptions_count 1;
             subscriptions = swap_remove index r.subscriptions;
@@ -203,9 +201,9 @@ remove_loop (suc n) f r =
 
 -- `if state.reporting_cancelled.is_none() { if let Some(sub) = state.reporting .. { if let Some(reason) = f(sub) {`
 abbrev pub cancels : (Subscription → Bool) → Option Subscription → Option ℕ → Bool
-cancels f none cancelled = false
-cancels f (just reporting) none = f reporting
-cancels f (just reporting) (just reason) = false
+cancels f None cancelled = false
+cancels f (Some reporting) None = f reporting
+cancels f (Some reporting) (Some reason) = false
 
 -- whether it removed or cancelled, and the table
 unfoldable pub remove : (Subscription → Bool) → ℕ → Subscriptions → Bool × Subscriptions
@@ -214,7 +212,7 @@ remove f reason t =
     (record { subscriptions_count = t.subscriptions_count; subscriptions = t.subscriptions; removed = false }) in (
       r.removed || cancels f t.reporting t.reporting_cancelled,
       with_inner r.subscriptions_count r.subscriptions t.reporting
-          (cond (cancels f t.reporting t.reporting_cancelled) (just reason) t.reporting_cancelled) t,
+          (cond (cancels f t.reporting t.reporting_cancelled) (Some reason) t.reporting_cancelled) t,
     )
 
 -- ---- `SubscriptionsInner::clear`, whose reason "subscriptions cleared" has the number 255; the requests go with the subscriptions
@@ -223,15 +221,15 @@ remove f reason t =
 unfoldable pub clear : Subscriptions → Subscriptions
 clear t =
     cond (is_some t.reporting)
-    (with_inner 1 [] t.reporting (just 255) t)
+    (with_inner 1 [] t.reporting (Some 255) t)
     (with_inner 0 [] t.reporting t.reporting_cancelled t)
 
 -- ---- `SubscriptionsInner::purge_reported_changes`
 
 -- up to the least that every subscription has seen, or all where there is none
 abbrev pub purged_by : Option ℕ → ChangedAttrs → ChangedAttrs
-purged_by none g = clear_log g
-purged_by (just least) g = purge_up_to least g
+purged_by None g = clear_log g
+purged_by (Some least) g = purge_up_to least g
 
 -- not while more are counted than are in the vector
 unfoldable pub purge_reported_changes : Subscriptions → Subscriptions

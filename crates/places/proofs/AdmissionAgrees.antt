@@ -16,7 +16,7 @@ use Rattle.subscription.specs.Life.{priming, resumed}
 use Rattle.rules.specs.Machine.{outcome, with_ones, with_next, next_id_after, first_of, step}
 use Rattle.places.specs.Views.{stored_of, opens_of, view, kept}
 use Rattle.places.specs.Moves.{with_next_id, stored_last, opened_up}
-use Rattle.places.specs.Calls.{not_admitted, add_to, resume_in, note_in}
+use Rattle.places.specs.Calls.{refused_in, add_to, resume_in, note_in}
 use Rattle.places.specs.Agreement.{admitted_says, note_says}
 use Rattle.rules.specs.Calls as call
 use Rattle.rules.proofs.Acts.{act_add, act_resume, act_note}
@@ -44,7 +44,7 @@ module _ (t : Table) (long : length t.places ≡ 80) where
         → admitted_says (add_to t request events now) ≡ step (call.add request events now) (view t)
     unfolding add_to
     add_agrees request events now =
-        agreeing admitted_says t (call.add request events now) (not_admitted t) _ (λ why. refl) h
+        agreeing admitted_says t (call.add request events now) (refused_in t) _ (λ why. refl) h
         (λ e. let clear = sym (past_kept t h (call.add request events now) ∙ ap first_of (add_same t long h request events now)) ∙ e in
         let x = priming request t.next (watermark_of t.log) events now in
         ap (λ s. outcome (call.number t.next) s)
@@ -55,7 +55,7 @@ module _ (t : Table) (long : length t.places ≡ 80) where
         → admitted_says (resume_in t id request events) ≡ step (call.resume id request events) (view t)
     unfolding resume_in
     resume_agrees id request events =
-        agreeing admitted_says t (call.resume id request events) (not_admitted t) _ (λ why. refl) h
+        agreeing admitted_says t (call.resume id request events) (refused_in t) _ (λ why. refl) h
         (λ e. let clear = sym (past_kept t h (call.resume id request events) ∙ ap first_of (resume_same t long h id request events)) ∙ e in
         let x = resumed request id (watermark_of t.log) events in
         ap (λ s. outcome (call.number id) s) (stored_view x (next_id_after t.next id) (room_left t request id h clear))

@@ -14,7 +14,7 @@ use Rattle.rules.specs.States.{is_report}
 use Rattle.rules.specs.Machine.{outcome, with_ones, with_cancel, step}
 use Rattle.places.specs.Views.{opens_of, view, kept}
 use Rattle.places.specs.Moves.{emptied}
-use Rattle.places.specs.Calls.{not_woken, clear_in}
+use Rattle.places.specs.Calls.{refused_in, clear_in}
 use Rattle.places.specs.Agreement.{woken_says}
 use Rattle.rules.specs.Calls as call
 use Rattle.rules.proofs.Acts.{act_clear}
@@ -38,7 +38,7 @@ emptied_opens t fits =
 pub clear_agrees : (t : Table) → kept t ≡ true → woken_says (clear_in t) ≡ step call.clear (view t)
 unfolding clear_in emptied
 clear_agrees t h =
-    agreeing woken_says t call.clear (not_woken t) _ (λ why. refl) h
+    agreeing woken_says t call.clear (refused_in t) _ (λ why. refl) h
     (λ _. ap
     (λ l. outcome (call.yes_no false) (with_cancel (with_ones (view t) [] l) (cond (some is_report (opens_of t)) 255 t.cancel)))
     (emptied_opens t (kept_counts t h))

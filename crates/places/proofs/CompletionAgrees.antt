@@ -1,10 +1,10 @@
 -- Completions of a well-kept table, and the questions to an open one, are the machine's at the state that the table stands for.
 -- The scan finds the machine's open one, and its place is left to the newest in the array as in the list.
 -- Assumes nothing.
+use Rattle.std.specs.Prelude.{Err, None}
 use mathlib.Core.Path.{◌≡◌, refl, sym, ap, ◌∙◌}
 use mathlib.Core.Bool.{true, cond, ◌||◌}
 use mathlib.Core.List.{[], ◌∷◌, ◌++◌}
-use mathlib.Core.Option.{none}
 use Prim.Native.Nat.{ℕ, ◌+◌, ◌-◌, ◌≤◌, ◌<◌}
 use native.Mathlib.Omega.{arith}
 use borrow.Author.Tests.{ltb-true, not-false}
@@ -15,7 +15,6 @@ use Rattle.refusal.specs.declared.Refusal.TheVariants.{BadArgument, NotOpen}
 use Rattle.time.specs.declared.KeepAlive.{KeepAlive}
 use Rattle.subscription.specs.declared.Subscription.{Subscription}
 use Rattle.places.specs.declared.Table.{Table}
-use Rattle.answers.specs.declared.Told.TheVariants as told
 use Rattle.lists.specs.Search.{first}
 use Rattle.lists.specs.Removal.{take_out_newest}
 use Rattle.instants.specs.Instants.{never_reported}
@@ -26,7 +25,7 @@ use Rattle.rules.specs.States.{has_id}
 use Rattle.rules.specs.Machine.{outcome, with_ones, with_cancel, open_with, stays, stored_after, not_open, first_of, step}
 use Rattle.places.specs.Views.{stored_of, opens_of, view, kept, refusal_at}
 use Rattle.places.specs.Moves.{with_reason, stored_last, closed_at}
-use Rattle.places.specs.Calls.{open_at, stays_after, table_after, ended_at, not_completed, complete_in, attribute_at, send_at}
+use Rattle.places.specs.Calls.{open_at, stays_after, table_after, ended_at, refused_in, complete_in, attribute_at, send_at}
 use Rattle.places.specs.Agreement.{completed_says, told_says}
 use Rattle.rules.specs.Calls as call
 use Rattle.lists.proofs.Bools.{split}
@@ -48,18 +47,18 @@ module _ (t : Table) (long : length t.places ≡ 80) (h : kept t ≡ true) where
   pub attribute_agrees : (id e c a : ℕ) → told_says t (attribute_at t id e c a) ≡ step (call.attribute id e c a) (view t)
   unfolding attribute_at
   attribute_agrees id e c a =
-      agreeing (told_says t) t (call.attribute id e c a) told.Refused _ (λ why. refl) h
+      agreeing (told_says t) t (call.attribute id e c a) Err _ (λ why. refl) h
       (λ _. ap (λ x. outcome (call.yes_no (never_reported x.reported || changed_since t.log e c a x.seen)) (view t)) (same_open id)
       ∙ sym (act_attribute (view t) id e c a))
 
   pub send_agrees : (id : ℕ) (kind : KeepAlive) → told_says t (send_at t id kind) ≡ step (call.send_if_empty id kind) (view t)
   unfolding send_at
   send_agrees id kind =
-      agreeing (told_says t) t (call.send_if_empty id kind) told.Refused _ (λ why. refl) h
+      agreeing (told_says t) t (call.send_if_empty id kind) Err _ (λ why. refl) h
       (λ _. ap (λ x. outcome (call.yes_no (is_due x x.opened kind)) (view t)) (same_open id) ∙ sym (act_send (view t) id kind))
 
   -- where a completion is not refused, some open one has the id
-  pub open_found : (id o : ℕ) → refusal_at (call.complete id o) t ≡ none → first (has_id id) (opens_of t) < t.opens
+  pub open_found : (id o : ℕ) → refusal_at (call.complete id o) t ≡ None → first (has_id id) (opens_of t) < t.opens
   open_found id o e =
       let b = kept_counts t h in
       let size : length (opens_of t) ≡ t.opens = length-drop (80 - t.opens) t.places ∙ (omega arith) in
@@ -139,5 +138,5 @@ module _ (t : Table) (long : length t.places ≡ 80) (h : kept t ≡ true) where
   pub complete_agrees : (id o : ℕ) → completed_says (complete_in t id o) ≡ step (call.complete id o) (view t)
   unfolding complete_in
   complete_agrees id o =
-      agreeing completed_says t (call.complete id o) (not_completed t) (ended_at t (open_at t id) o) (λ why. refl) h
+      agreeing completed_says t (call.complete id o) (refused_in t) (ended_at t (open_at t id) o) (λ why. refl) h
       (λ e. ended_same id (open_found id o e) o ∙ sym (act_complete (view t) id o))

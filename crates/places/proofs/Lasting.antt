@@ -1,9 +1,8 @@
 -- What lasts through every move lasts through every call: a whole table stays whole, and a tidy one tidy.
 -- Assumes nothing.
+use Rattle.std.specs.Prelude.{Option, Some, None}
 use mathlib.Core.Path.{◌≡◌, refl, sym, ap, ◌∙◌}
 use mathlib.Core.Bool.{true}
-use mathlib.Core.Option.{Option, none}
-use mathlib.Core.Option.{some as just}
 use Prim.Native.Nat.{ℕ, ◌<◌}
 use native.Mathlib.Omega.{arith}
 use borrow.Author.Tests.{ltb-true}
@@ -15,12 +14,6 @@ use Rattle.choices.specs.declared.Choice.{Choice}
 use Rattle.subscription.specs.declared.Request.{Request}
 use Rattle.subscription.specs.declared.Settings.{Settings}
 use Rattle.places.specs.declared.Table.{Table}
-use Rattle.places.specs.declared.Admitted.{Admitted}
-use Rattle.places.specs.declared.Completed.{Completed}
-use Rattle.places.specs.declared.Reported.{Reported}
-use Rattle.places.specs.declared.Settled.{Settled}
-use Rattle.places.specs.declared.TableNoted.{TableNoted}
-use Rattle.places.specs.declared.Woken.{Woken}
 use Rattle.subscription.specs.Life.{blank, closed}
 use Rattle.choices.specs.Choices.{chosen}
 use Rattle.rules.specs.Calls.{Op}
@@ -28,26 +21,27 @@ use Rattle.rules.specs.Machine.{first_of}
 use Rattle.places.specs.Views.{kept, refusal_at}
 use Rattle.places.specs.Tidiness.{Lasting}
 use Rattle.places.specs.Moves.{taken_out, closed_at, swept_out, emptied}
-use Rattle.places.specs.Calls.{settled_by, note_in, first_ready, handed_out, hand_out_in, report_in, add_to, resume_in, stays_after, table_after, open_at, ended_at, complete_in, remove_in, clear_in, purged_table, purge_in}
+use Rattle.places.specs.Calls.{Tabled, refused_in, settled_by, note_in, first_ready, handed_out, hand_out_in, report_in, add_to, resume_in, stays_after, table_after, open_at, ended_at, complete_in, remove_in, clear_in, purged_table, purge_in}
 use Rattle.rules.specs.Calls as call
 use Rattle.lists.proofs.Bools.{split}
 use Rattle.places.proofs.Refusing.{past_kept, unkept, add_same, resume_same, room_left}
 use Rattle.places.proofs.CompletionAgrees.{open_found, at_most, at_least, closed_room}
 
 -- a call that is not refused is one of a well-kept table
-pub unrefused_kept : (t : Table) (op : Op) → refusal_at op t ≡ none → kept t ≡ true
+pub unrefused_kept : (t : Table) (op : Op) → refusal_at op t ≡ None → kept t ≡ true
 unrefused_kept t op e =
     split (kept t) (λ k. k) (λ k. absurd (let w = sym (unkept t k op) ∙ e in let z : ◌≡◌ {A = ℕ} 0 1 = cc in omega arith))
 
-module _ (P : Table → Type 0) {A : Type 0} (after : A → Table) (t : Table) (h : P t) (refuse : Refusal → A) (served : A) (back : (why : Refusal) → after (refuse why) ≡ t) where
-  by_refusal : (r : Option Refusal) → (r ≡ none → P (after served)) → P (after (settled_by r refuse served))
-  by_refusal none g = g refl
-  by_refusal (just why) g = rw (back why) h
+-- a refused call leaves the table, and what holds of it
+by_refusal : (P : Table → Type 0) {A : Type 0} (t : Table) → P t → (served : Tabled A) (r : Option Refusal)
+    → (r ≡ None → P served.table) → P (settled_by r (refused_in t) served).table
+by_refusal P t h served None g = g refl
+by_refusal P t h served (Some why) g = h
 
 module _ {P : Table → Type 0} (lasting : Lasting P) (t : Table) (h : P t) where
   pub note_lasts : (e c a : ℕ) → P (note_in t e c a).table
   unfolding note_in
-  note_lasts e c a = by_refusal P (λ (r : TableNoted). r.table) t h _ _ (λ why. refl) (refusal_at (call.note e c a) t) (λ _. lasting.again t _ refl refl refl h)
+  note_lasts e c a = by_refusal P t h _ (refusal_at (call.note e c a) t) (λ _. lasting.again t _ refl refl refl h)
 
   handed_lasts : (at : Settings) (i : ℕ) → i < t.stored → P (handed_out t at i).table
   unfolding handed_out taken_out
@@ -56,7 +50,7 @@ module _ {P : Table → Type 0} (lasting : Lasting P) (t : Table) (h : P t) wher
   pub report_lasts : (at : Settings) → P (report_in t at).table
   unfolding report_in hand_out_in
   report_lasts at =
-      by_refusal P (λ (r : Reported). r.table) t h _ _ (λ why. refl) (refusal_at (call.report at) t)
+      by_refusal P t h _ (refusal_at (call.report at) t)
       (λ _. split (ltb (first_ready t at) t.stored)
       (λ u. rw (u, hand_out_in) (handed_lasts at (first_ready t at) (ltb-true (first_ready t at) t.stored u)))
       (λ u. rw (u, hand_out_in) h))
@@ -65,7 +59,7 @@ module _ {P : Table → Type 0} (lasting : Lasting P) (t : Table) (h : P t) wher
   unfolding add_to
   add_lasts request events now =
       let op = call.add request events now in
-      by_refusal P (λ (r : Admitted). r.table) t h _ _ (λ why. refl) (refusal_at op t)
+      by_refusal P t h _ (refusal_at op t)
       (λ e. let k = unrefused_kept t op e in
       let clear = sym (past_kept t k op ∙ ap first_of (add_same t (lasting.wholly t h).long k request events now)) ∙ e in
       lasting.again _ _ refl refl refl (lasting.opened t h _ (room_left t request t.next k clear)))
@@ -74,7 +68,7 @@ module _ {P : Table → Type 0} (lasting : Lasting P) (t : Table) (h : P t) wher
   unfolding resume_in
   resume_lasts id request events =
       let op = call.resume id request events in
-      by_refusal P (λ (r : Admitted). r.table) t h _ _ (λ why. refl) (refusal_at op t)
+      by_refusal P t h _ (refusal_at op t)
       (λ e. let k = unrefused_kept t op e in
       let clear = sym (past_kept t k op ∙ ap first_of (resume_same t (lasting.wholly t h).long k id request events)) ∙ e in
       lasting.again _ _ refl refl refl (lasting.stored t h _ (room_left t request id k clear)))
@@ -85,7 +79,7 @@ module _ {P : Table → Type 0} (lasting : Lasting P) (t : Table) (h : P t) wher
       let op = call.complete id o in
       let j = open_at t id in
       let x = get_or t.places j blank in
-      by_refusal P (λ (r : Completed). r.table) t h _ _ (λ why. refl) (refusal_at op t)
+      by_refusal P t h _ (refusal_at op t)
       (λ e. let k = unrefused_kept t op e in
       let found = open_found t (lasting.wholly t h).long k id o e in
       let rest = lasting.closed t h j (at_least t (lasting.wholly t h).long k id found) (at_most t (lasting.wholly t h).long k id found) in
@@ -97,19 +91,19 @@ module _ {P : Table → Type 0} (lasting : Lasting P) (t : Table) (h : P t) wher
   pub remove_lasts : (choice : Choice) (reason : ℕ) → P (remove_in t choice reason).table
   unfolding remove_in
   remove_lasts choice reason =
-      by_refusal P (λ (r : Woken). r.table) t h _ _ (λ why. refl) (refusal_at (call.remove choice reason) t)
+      by_refusal P t h _ (refusal_at (call.remove choice reason) t)
       (λ _. lasting.again (swept_out (chosen choice) t) _ refl refl refl (lasting.swept t h (chosen choice)))
 
   pub clear_lasts : P (clear_in t).table
   unfolding clear_in
   clear_lasts =
-      by_refusal P (λ (r : Woken). r.table) t h _ _ (λ why. refl) (refusal_at call.clear t)
+      by_refusal P t h _ (refusal_at call.clear t)
       (λ _. lasting.again (emptied t) _ refl refl refl (lasting.emptied t h))
 
   pub purge_lasts : P (purge_in t).table
   unfolding purge_in purged_table
   purge_lasts =
-      by_refusal P (λ (r : Settled). r.table) t h _ _ (λ why. refl) (refusal_at call.purge t)
+      by_refusal P t h _ (refusal_at call.purge t)
       (λ _. split (ltb 0 t.opens)
       (λ u. rw (u, purged_table) h)
       (λ u. split (ltb 0 t.stored)

@@ -1,6 +1,7 @@
 -- A purge of a well-kept table and its next keep-alive are the machine's at the state that the table stands for.
 -- The table's least over the stored ones starts from a bound of all of them, the machine's from the first.
 -- Assumes nothing.
+use Rattle.std.specs.Prelude.{Some, None, Ok, Err}
 use mathlib.Core.Path.{◌≡◌, refl, sym, ap, ◌∙◌}
 use mathlib.Core.Bool.{true, false, cond}
 use mathlib.Core.List.{List, [], ◌∷◌}
@@ -14,8 +15,6 @@ use lib.Seq.{length-take-le, get_or-take}
 use Rattle.time.specs.declared.KeepAlive.TheVariants.{Icd}
 use Rattle.subscription.specs.declared.Subscription.{Subscription}
 use Rattle.places.specs.declared.Table.{Table}
-use Rattle.answers.specs.declared.Change.TheVariants as change
-use Rattle.places.specs.declared.Alive.TheVariants as alive
 use Rattle.lists.specs.Search.{least_by}
 use Rattle.instants.specs.Instants.{last_instant}
 use Rattle.changes.specs.Logs.{purged}
@@ -42,7 +41,7 @@ seen_same [] h = absurd (not-suc-le-zero h)
 seen_same (x ∷ xs) h = least_lower (λ y. y.seen) x.seen x xs (le_refl x.seen)
 
 alive_same : (t : Table) (l : List Subscription)
-    → alive_says t (cond (eqb (length l) 0) alive.Never (alive.At (record { ms = least_by icd_due last_instant.ms l })))
+    → alive_says t (Ok (cond (eqb (length l) 0) None (Some (record { ms = least_by icd_due last_instant.ms l }))))
     ≡ outcome (call.keep_alive (keep_alive_in l)) (view t)
 unfolding icd_due
 alive_same t [] = rw alive_none
@@ -60,8 +59,8 @@ module _ (t : Table) (long : length t.places ≡ 80) (h : kept t ≡ true) where
   pub alive_agrees : alive_says t (alive_at t) ≡ step call.next_keep_alive (view t)
   unfolding alive_at
   alive_agrees =
-      agreeing (alive_says t) t call.next_keep_alive alive.Refused _ (λ why. refl) h
-      (λ _. ap (λ n. alive_says t (cond (eqb n 0) alive.Never (alive.At (record { ms = least_by icd_due last_instant.ms (stored_of t) }))))
+      agreeing (alive_says t) t call.next_keep_alive Err _ (λ why. refl) h
+      (λ _. ap (λ n. alive_says t (Ok (cond (eqb n 0) None (Some (record { ms = least_by icd_due last_instant.ms (stored_of t) })))))
       (sym stored_many)
       ∙ alive_same t (stored_of t)
       ∙ sym (act_alive (view t)))
@@ -76,7 +75,7 @@ module _ (t : Table) (long : length t.places ≡ 80) (h : kept t ≡ true) where
   pub purge_agrees : settled_says (purge_in t) ≡ step call.purge (view t)
   unfolding purge_in purged_table
   purge_agrees =
-      agreeing settled_says t call.purge (λ why. record { answer = change.Refused why; table = t }) _ (λ why. refl) h
+      agreeing settled_says t call.purge (λ why. record { answer = Err why; table = t }) _ (λ why. refl) h
       (λ _. sym (act_purge (view t) ∙ rw (opens_many, stored_many)
       (split (ltb 0 t.opens)
       (λ u. rw (u, purged_table))

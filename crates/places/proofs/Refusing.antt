@@ -1,10 +1,8 @@
 -- What a well-kept table gives its calls, and how a call comes to its refusal: 7 first, then the machine's objections.
 -- Assumes nothing.
+use Rattle.std.specs.Prelude.{Some, None}
 use mathlib.Core.Path.{◌≡◌, sym, ap, ◌∙◌}
 use mathlib.Core.Bool.{true, false, not}
-use mathlib.Core.List.{[]}
-use mathlib.Core.Option.{none}
-use mathlib.Core.Option.{some as just}
 use Prim.Native.Nat.{ℕ, ◌+◌, ◌-◌, ◌≤◌, ◌<◌}
 use native.Mathlib.Omega.{arith}
 use borrow.Author.Tests.{leb-true, leb-false}
@@ -24,7 +22,7 @@ use Rattle.places.specs.Calls.{admit_objections}
 use Rattle.rules.specs.Calls as call
 use Rattle.lists.proofs.Bools.{split, and_both, and_left, and_right}
 use Rattle.lists.proofs.Searches.{some_append}
-use Rattle.rules.proofs.Clauses.{counted_is, add_objects, resume_objects, well_kept_is, first_holds, first_passed, first_none}
+use Rattle.rules.proofs.Clauses.{counted_is, add_objects, resume_objects, well_kept_is, first_holds, first_passed}
 
 module _ (t : Table) where
   module _ (h : kept t ≡ true) where
@@ -62,12 +60,8 @@ module _ (t : Table) where
     unfolding refusal_at
     past_kept op = first_passed NotWellKept (objections op (view t)) (ap not h)
 
-    -- and there is none where the machine has no objection
-    pub no_refusal : (op : Op) → objections op (view t) ≡ [] → refusal_at op t ≡ none
-    no_refusal op e = past_kept op ∙ ap first_of e ∙ first_none
-
   -- a table that is not well kept is refused with 7
-  pub unkept : kept t ≡ false → (op : Op) → refusal_at op t ≡ just NotWellKept
+  pub unkept : kept t ≡ false → (op : Op) → refusal_at op t ≡ Some NotWellKept
   unfolding refusal_at
   unkept h op = first_holds NotWellKept (objections op (view t)) (ap not h)
 
@@ -91,7 +85,7 @@ module _ (t : Table) (long : length t.places ≡ 80) (h : kept t ≡ true) where
       resume_objects (view t) id request events ∙ rw (counted_fields, some_append (has_id id) (stored_of t) (opens_of t))
 
 -- where an admission is not refused, there is room
-pub room_left : (t : Table) (request : Request) (id : ℕ) → kept t ≡ true → first_of (admit_objections t request id) ≡ none → t.stored + t.opens < 80
+pub room_left : (t : Table) (request : Request) (id : ℕ) → kept t ≡ true → first_of (admit_objections t request id) ≡ None → t.stored + t.opens < 80
 room_left t request id h e =
     split (eqb request.fabric 0)
     (λ u. absurd (let w = sym (first_holds BadArgument _ u) ∙ e in let z : ◌≡◌ {A = ℕ} 0 1 = cc in omega arith))

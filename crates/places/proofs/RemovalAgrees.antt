@@ -1,5 +1,5 @@
 -- A removal from a well-kept table is the machine's at the state that the table stands for.
--- The loop over the places sweeps the machine's list, and does not touch the open ones.
+-- The sweep over the places sweeps the machine's list, and does not touch the open ones.
 -- Assumes nothing.
 use mathlib.Core.Path.{◌≡◌, refl, sym, ap, ◌∙◌}
 use mathlib.Core.Bool.{Bool, true, ◌||◌, cond}
@@ -19,7 +19,7 @@ use Rattle.rules.specs.Machine.{Outcome, outcome, with_ones, with_cancel, step}
 use Rattle.places.specs.Views.{stored_of, opens_of, view, kept}
 use Rattle.places.specs.Tests.{struck}
 use Rattle.places.specs.Moves.{swapped, swept_from, swept_out}
-use Rattle.places.specs.Calls.{not_woken, cancels_in, remove_in}
+use Rattle.places.specs.Calls.{refused_in, cancels_in, remove_in}
 use Rattle.places.specs.Agreement.{woken_says}
 use Rattle.rules.specs.Calls as call
 use Rattle.lists.proofs.Bools.{split}
@@ -29,8 +29,8 @@ use Rattle.places.proofs.Refusing.{kept_counts}
 use Rattle.places.proofs.Agreeing.{agreeing}
 
 module _ (p : Subscription → Bool) where
-  -- what the loop holds in the end is what the scan of the list leaves
-  swept_scan : (f i n : ℕ) (l : List Subscription) → n - i ≡ f → i ≤ n → n ≤ length l
+  -- what the sweep holds in the end is what the scan of the list leaves
+  pub swept_scan : (f i n : ℕ) (l : List Subscription) → n - i ≡ f → i ≤ n → n ≤ length l
       → take (swept_from p f i n l).count (swept_from p f i n l).places ≡ scanned p i n l
   unfolding swept_from
   swept_scan zero i n l e h room = sym (scan_done p n l room i h (omega arith))
@@ -46,7 +46,7 @@ module _ (p : Subscription → Bool) where
       (swept_scan f (i + 1) n l (omega arith) (omega arith) room ∙ sym (scan_kept p i n l blank room (omega arith) t)))
 
   -- and what stands behind the held places stays
-  swept_rest : (f i n k : ℕ) (l : List Subscription) → n - i ≡ f → n ≤ k → drop k (swept_from p f i n l).places ≡ drop k l
+  pub swept_rest : (f i n k : ℕ) (l : List Subscription) → n - i ≡ f → n ≤ k → drop k (swept_from p f i n l).places ≡ drop k l
   unfolding swept_from
   swept_rest zero i n k l e h = refl
   swept_rest (suc f) i n k l e h =
@@ -78,7 +78,7 @@ module _ (t : Table) (long : length t.places ≡ 80) (h : kept t ≡ true) where
       let wakes = some (chosen choice) (stored_of t) || cancels_in t choice in
       let after = cond (cancels_in t choice) reason t.cancel in
       let left : List Subscription → List Subscription → Outcome = λ stored opens. outcome (call.yes_no wakes) (with_cancel (with_ones (view t) stored opens) after) in
-      agreeing woken_says t (call.remove choice reason) (not_woken t) _ (λ why. refl) h
+      agreeing woken_says t (call.remove choice reason) (refused_in t) _ (λ why. refl) h
       (λ _. ap (λ l. left l (opens_of (swept_out (chosen choice) t))) (swept_stored (chosen choice))
       ∙ ap (left (sweep (chosen choice) (stored_of t))) (swept_opens (chosen choice))
       ∙ sym (act_remove (view t) choice reason))

@@ -22,7 +22,7 @@ use Rattle.rules.specs.Machine.{outcome, with_ones, opened_in, next_up, ready, r
 use Rattle.places.specs.Views.{stored_of, opens_of, view, kept}
 use Rattle.places.specs.Tests.{ready_by}
 use Rattle.places.specs.Moves.{taken_out, opened_up}
-use Rattle.places.specs.Calls.{first_ready, handed_out, hand_out_in, not_reported, report_in}
+use Rattle.places.specs.Calls.{first_ready, handed_out, hand_out_in, refused_in, report_in}
 use Rattle.places.specs.Agreement.{report_says}
 use Rattle.rules.specs.Calls as call
 use Rattle.lists.proofs.Bools.{split}
@@ -103,4 +103,4 @@ module _ (t : Table) (long : length t.places ≡ 80) (h : kept t ≡ true) (at :
   pub report_agrees : report_says (report_in t at) ≡ step (call.report at) (view t)
   unfolding report_in
   report_agrees =
-      agreeing report_says t (call.report at) (not_reported t) (hand_out_in t at) (λ why. refl) h (λ _. acted_same ∙ sym (act_report at (view t)))
+      agreeing report_says t (call.report at) (refused_in t) (hand_out_in t at) (λ why. refl) h (λ _. acted_same ∙ sym (act_report at (view t)))

@@ -1,8 +1,7 @@
 -- The table as the code holds it, and the state of the machine that it stands for. The stored ones are the first places, in their order; the
 -- open ones are the last places, the newest first. What stands between them means nothing.
 -- Assumes nothing.
-use Rattle.std.specs.Prelude.{Bool, cond, not, ◌&&◌, List, ◌∷◌, ℕ, ◌+◌, ◌-◌, leb, ltb, take, drop, replicate}
-use Rattle.std.proofs.Math.Option.{Option}
+use Rattle.std.specs.Prelude.{Bool, not, ◌&&◌, List, ◌∷◌, ℕ, ◌+◌, ◌-◌, leb, take, drop, replicate, Option}
 use Rattle.refusal.specs.declared.Refusal.{Refusal}
 use Rattle.refusal.specs.declared.Refusal.TheVariants.{NotWellKept}
 use Rattle.subscription.specs.declared.Subscription.{Subscription}
@@ -25,10 +24,6 @@ opens_of t = drop (80 - t.opens) t.places
 -- the place of the first open one that p holds of, or the number of places where there is none
 abbrev pub first_open : Table → (Subscription → Bool) → ℕ
 first_open t p = 80 - t.opens + first p (opens_of t)
-
--- where the i-th live one stands: the open ones begin behind a gap
-abbrev pub place_of : ℕ → ℕ → ℕ → ℕ
-place_of i stored gap = cond (ltb i stored) i (i + gap)
 
 -- the state that a table stands for
 abbrev pub view : Table → State

@@ -4,13 +4,13 @@
 use mathlib.Core.Path.{◌≡◌, refl, sym, ap, ◌∙◌}
 use mathlib.Core.Bool.{Bool, true, false, cond}
 use mathlib.Core.List.{List, [], ◌∷◌, ◌++◌, append_assoc}
-use Prim.Native.Nat.{ℕ, zero, suc, ◌+◌, ◌-◌, ◌*◌, ◌/◌, ◌%◌, ◌^◌, ◌≤◌, ◌<◌}
+use Prim.Native.Nat.{ℕ, zero, suc, ◌+◌, ◌*◌, ◌/◌, ◌%◌, ◌^◌, ◌≤◌, ◌<◌}
 use native.Mathlib.Nat.{add-zero, add-suc, suc-add}
 use native.Mathlib.Omega.{arith}
 use lib.Dec.{leb, ltb}
 use lib.ListN.{length, set, length-append}
 use lib.Seq.{sets, length-sets}
-use borrow.Author.Tests.{lt-ltb, le-ltb, le-leb, lt-leb, leb-true, leb-false}
+use borrow.Author.Tests.{lt-ltb, le-ltb, le-leb}
 use Rattle.fields.specs.Bytes.{comma, zero_digit, CR, LF}
 use Rattle.printing.specs.Inner.{Put}
 use Rattle.printing.specs.Answers.{digits_by, digits_of, answer_line, answer_of, put_of, field_room, answer_room}
@@ -60,17 +60,6 @@ twenty n = at_most 20 n
 pub sets_append : (l : List ℕ) (i : ℕ) (a b : List ℕ) → sets l i (a ++ b) ≡ sets (sets l i a) (i + length a) b
 sets_append l i [] b = rw add-zero
 sets_append l i (x ∷ a) b = sets_append (set l i x) (suc i) a b ∙ rw (add-suc, suc-add)
-
--- the test for room makes no sum that could wrap
-pub room_none : (len at room : ℕ) → len < room → leb (at + room) len ≡ false
-room_none len at room h = lt-leb (at + room) len (omega arith)
-
-pub room_some : (len at room : ℕ) → room ≤ len → leb at (len - room) ≡ leb (at + room) len
-room_some len at room h = go (leb at (len - room)) refl
-  where
-    go : (t : Bool) → leb at (len - room) ≡ t → leb at (len - room) ≡ leb (at + room) len
-    go true e = let k = leb-true at (len - room) e in e ∙ sym (le-leb (at + room) len (omega arith))
-    go false e = let k = leb-false at (len - room) e in e ∙ sym (lt-leb (at + room) len (omega arith))
 
 pub put_all : (room : ℕ) (out : List ℕ) (at : ℕ) (text : List ℕ) → at + room ≤ length out → put_of room out at text ≡ (at + length text, sets out at text)
 unfolding put_of

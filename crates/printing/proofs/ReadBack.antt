@@ -1,6 +1,7 @@
 -- What the printer writes reads back: the digits that are written say the number, by induction over them from the last one to the first;
 -- so the field reader reads it. And an answer is cut off as the line that was written.
 -- Assumes nothing.
+use Rattle.std.specs.Prelude.{Some}
 use mathlib.Core.Path.{◌≡◌, refl, ap, ◌∙◌}
 use mathlib.Core.Bool.{Bool, true, false}
 use mathlib.Core.List.{List, [], ◌∷◌, ◌++◌, append_assoc}
@@ -41,13 +42,13 @@ module _ (w n : ℕ) (fits : n ≤ w) (small : n < 2 ^ 64) (v : List ℕ) (j : �
       numbers_more w ws v j n (length (digits_of n) + 1) (digits_of n ++ (comma ∷ l)) (read_more w n (digits_of n) fits (digits_say n small) l)
       ∙ ap (numbers_from ws (set v j n) (j + 1)) (drop-append-add (digits_of n) (comma ∷ l) 1)
 
-  digits_last : numbers_from (w ∷ []) v j (digits_of n) ≡ record { all = true; at = set v j n }
+  digits_last : numbers_from (w ∷ []) v j (digits_of n) ≡ Some (set v j n)
   digits_last = numbers_last w v j n (digits_of n) (read_last w n (digits_of n) fits (digits_say n small))
 
 -- an answer's number, code and value are what its line's fields say
 pub answer_reads_back : (number code value : ℕ) → number < 2 ^ 64 → code < 2 ^ 8 → value < 2 ^ 64
     → numbers_of (bits64 ∷ bits8 ∷ bits64 ∷ []) (answer_line number code value)
-    ≡ record { all = true; at = number ∷ code ∷ value ∷ replicate 9 0 }
+    ≡ Some (number ∷ code ∷ value ∷ replicate 9 0)
 unfolding answer_line
 answer_reads_back number code value a b c =
     numbers_begin (bits64 ∷ bits8 ∷ bits64 ∷ []) (digits_of number ++ (comma ∷ (digits_of code ++ (comma ∷ digits_of value)))) refl

@@ -20,7 +20,7 @@ pub fn put_answer(out: &mut [u8], at: usize, number: u64, code: u8, value: u64) 
 {
     if has_room(out.len(), at, ANSWER_ROOM) {
         let a = put_field(out, at, number, b',');
-        let b = put_field(out, a, code as u64, b',');
+        let b = put_field(out, a, u64::from(code), b',');
         let c = put_field(out, b, value, b'\r');
         out[c] = b'\n';
         return c + 1;
@@ -40,7 +40,8 @@ pub fn put_field(out: &mut [u8], at: usize, n: u64, end: u8) -> usize
     at
 }
 
-// Puts the digits of `n`, the last one last: those before it are the digits of a tenth.
+// Puts the digits of `n`, the last one last: those before it are the digits of a tenth. A loop would have to count them first. A digit is
+// below ten, and the cast loses nothing.
 fn put_digits(out: &mut [u8], at: usize, n: u64) -> usize
     requires { at + length (digits_of n) ≤ length out.old }
     ensures { Put out.old at (digits_of n) result out.new }
@@ -58,8 +59,5 @@ fn put_digits(out: &mut [u8], at: usize, n: u64) -> usize
 pub fn has_room(len: usize, at: usize, room: usize) -> bool
     ensures { result ≡ leb (at + room) len }
 {
-    if len < room {
-        return false;
-    }
-    at <= len - room
+    room <= len && at <= len - room
 }

@@ -5,24 +5,24 @@
 ghost use Rattle.std.specs.Prelude.{◌≡◌};
 ghost use Rattle.refusal.specs.Numbers.{number_of};
 
-#[derive(Clone, Copy)]
+#[derive(Clone, Copy, PartialEq, Eq, Debug)]
 pub enum Refusal {
     // Counted places reach the capacity.
-    Full,
+    Full = 1,
     // No open report or priming has the id.
-    NotOpen,
+    NotOpen = 2,
     // A report is open.
-    ReportOpen,
+    ReportOpen = 3,
     // The id to be used is live.
-    IdLive,
+    IdLive = 4,
     // An argument outside its range.
-    BadArgument,
+    BadArgument = 5,
     // A priming is open.
-    PrimingOpen,
+    PrimingOpen = 6,
     // The state isn't well kept.
-    NotWellKept,
+    NotWellKept = 7,
     // A line that can't be read.
-    BadLine,
+    BadLine = 8,
 }
 
 impl Refusal {
@@ -30,15 +30,6 @@ impl Refusal {
     pub fn number(self) -> u8
         ensures { result ≡ number_of self }
     {
-        match self {
-            Refusal::Full => 1,
-            Refusal::NotOpen => 2,
-            Refusal::ReportOpen => 3,
-            Refusal::IdLive => 4,
-            Refusal::BadArgument => 5,
-            Refusal::PrimingOpen => 6,
-            Refusal::NotWellKept => 7,
-            Refusal::BadLine => 8,
-        }
+        self as u8
     }
 }

@@ -1,11 +1,11 @@
 // The lines of the calls by which a table changes.
-use super::replies::{Answered, Reply, bad, none, one, refused, three, two};
-use super::words::{is_word, low8, low16, low32};
-use answers::{Change, flag};
-use fields::{Numbers, PLACES, read_fields};
+use super::replies::{Reply, told};
+use super::words::{narrow, read};
+use answers::flag;
+use fields::PLACES;
 use instants::Instant;
-use lines::{BITS8, BITS16, BITS32, BITS64, FLAG, starts};
-use places::{Admission, Completion, HandOut, Hearing, Table};
+use lines::{BITS8, BITS16, BITS32, BITS64, FLAG};
+use places::Table;
 use subscription::{Request, Settings};
 use time::KeepAlive;
 
@@ -21,132 +21,73 @@ const REPORT: [u64; 4] = [BITS64, BITS64, FLAG, FLAG];
 
 const DONE: [u64; 2] = [BITS32, BITS8];
 
-// The line `s` at the table `t`, if it is one of these.
-pub(crate) fn answer(t: Table, s: &[u8]) -> Answered {
-    if starts(s, b"new,") {
-        return new(t, read_fields(s, 4, &NEW));
+// The answer to the line `s` at the table `t`.
+pub(crate) fn answer(t: &mut Table, s: &[u8]) -> Reply {
+    if let Some(rest) = s.strip_prefix(b"new,") {
+        return new(t, read(rest, &NEW)?);
     }
-    if starts(s, b"add,") {
-        return add(t, read_fields(s, 4, &ADD));
+    if let Some(rest) = s.strip_prefix(b"add,") {
+        return add(t, read(rest, &ADD)?);
     }
-    if starts(s, b"resume,") {
-        return resume(t, read_fields(s, 7, &RESUME));
+    if let Some(rest) = s.strip_prefix(b"resume,") {
+        return resume(t, read(rest, &RESUME)?);
     }
-    if starts(s, b"note,") {
-        return note(t, read_fields(s, 5, &NOTE));
+    if let Some(rest) = s.strip_prefix(b"note,") {
+        return note(t, read(rest, &NOTE)?);
     }
-    if starts(s, b"report,") {
-        return report(t, read_fields(s, 7, &REPORT));
+    if let Some(rest) = s.strip_prefix(b"report,") {
+        return report(t, read(rest, &REPORT)?);
     }
-    if starts(s, b"done,") {
-        return done(t, read_fields(s, 5, &DONE));
+    if let Some(rest) = s.strip_prefix(b"done,") {
+        return done(t, read(rest, &DONE)?);
     }
-    if is_word(s, b"purge") {
-        return purge(t);
+    if s == b"purge".as_slice() {
+        table::purge_reported_changes(t)?;
+        return told(&[]);
     }
     super::removals::answer(t, s)
 }
 
 // A refused new table leaves the one that was there.
-fn new(t: Table, n: Numbers) -> Answered {
-    if !n.all {
-        return bad(t);
-    }
-    let v = n.at;
-    let r = table::new(low8(v[0]));
-    let answer = r.answer;
-    let table = r.table;
-    match answer {
-        Change::Done => Answered {
-            reply: one(v[0]),
-            table: table,
-        },
-        Change::Refused(why) => Answered {
-            reply: refused(why),
-            table: t,
-        },
-    }
+fn new(t: &mut Table, v: [u64; PLACES]) -> Reply {
+    let (made, table) = table::new(narrow(v[0]));
+    made?;
+    *t = table;
+    told(&[v[0]])
 }
 
-fn add(t: Table, n: Numbers) -> Answered {
-    if !n.all {
-        return bad(t);
-    }
-    let v = n.at;
-    let r = table::add(t, request(v), v[5], Instant::at(v[0]));
-    let answer = r.answer;
-    let table = r.table;
-    Answered {
-        reply: admitted(answer),
-        table: table,
-    }
+fn add(t: &mut Table, v: [u64; PLACES]) -> Reply {
+    let id = table::add(t, request(v), v[5], Instant::at(v[0]))?;
+    told(&[u64::from(id)])
 }
 
-fn resume(t: Table, n: Numbers) -> Answered {
-    if !n.all {
-        return bad(t);
-    }
-    let v = n.at;
-    let r = table::resume(t, low32(v[0]), request(v), v[5]);
-    let answer = r.answer;
-    let table = r.table;
-    Answered {
-        reply: admitted(answer),
-        table: table,
-    }
+fn resume(t: &mut Table, v: [u64; PLACES]) -> Reply {
+    let id = table::resume(t, narrow(v[0]), request(v), v[5])?;
+    told(&[u64::from(id)])
 }
 
 // What add and resume bring, behind their first field.
 fn request(v: [u64; PLACES]) -> Request {
     Request {
         peer: v[2],
-        shortest: low16(v[3]),
-        longest: low16(v[4]),
-        rx: low16(v[6]),
-        fabric: low8(v[1]),
-    }
-}
-
-fn admitted(answer: Admission) -> Reply {
-    match answer {
-        Admission::Id(id) => one(id as u64),
-        Admission::Refused(why) => refused(why),
-    }
-}
-
-fn note(t: Table, n: Numbers) -> Answered {
-    if !n.all {
-        return bad(t);
-    }
-    let v = n.at;
-    let r = table::note(t, low16(v[0]), low32(v[1]), low32(v[2]));
-    let answer = r.answer;
-    let table = r.table;
-    Answered {
-        reply: noted(answer),
-        table: table,
+        shortest: narrow(v[3]),
+        longest: narrow(v[4]),
+        rx: narrow(v[6]),
+        fabric: narrow(v[1]),
     }
 }
 
 // The identity, and whether it wakes.
-fn noted(answer: Hearing) -> Reply {
-    match answer {
-        Hearing::Entered(x) => two(x.identity, flag(x.wakes)),
-        Hearing::Refused(why) => refused(why),
-    }
+fn note(t: &mut Table, v: [u64; PLACES]) -> Reply {
+    let heard = table::note(t, narrow(v[0]), narrow(v[1]), narrow(v[2]))?;
+    told(&[heard.identity, flag(heard.wakes)])
 }
 
-fn report(t: Table, n: Numbers) -> Answered {
-    if !n.all {
-        return bad(t);
-    }
-    let v = n.at;
-    let r = table::report(t, settings(v));
-    let answer = r.answer;
-    let table = r.table;
-    Answered {
-        reply: reported(answer),
-        table: table,
+// Whether somebody is handed out, whom, and the number of its request bytes.
+fn report(t: &mut Table, v: [u64; PLACES]) -> Reply {
+    match table::report(t, settings(v))? {
+        Some(handed) => told(&[1, u64::from(handed.id), u64::from(handed.rx)]),
+        None => told(&[0, 0, 0]),
     }
 }
 
@@ -160,51 +101,8 @@ pub(crate) fn settings(v: [u64; PLACES]) -> Settings {
     }
 }
 
-// Whether somebody is handed out, whom, and the number of its request bytes.
-fn reported(answer: HandOut) -> Reply {
-    match answer {
-        HandOut::To(x) => three(1, x.id as u64, x.rx as u64, 3),
-        HandOut::Nothing => three(0, 0, 0, 3),
-        HandOut::Refused(why) => refused(why),
-    }
-}
-
-fn done(t: Table, n: Numbers) -> Answered {
-    if !n.all {
-        return bad(t);
-    }
-    let v = n.at;
-    let r = table::complete(t, low32(v[0]), low8(v[1]));
-    let answer = r.answer;
-    let table = r.table;
-    Answered {
-        reply: completed(answer),
-        table: table,
-    }
-}
-
 // Whether it is kept, and whether its subscriber has gone quiet.
-fn completed(answer: Completion) -> Reply {
-    match answer {
-        Completion::Ended(x) => two(flag(x.kept), flag(x.failed)),
-        Completion::Refused(why) => refused(why),
-    }
-}
-
-fn purge(t: Table) -> Answered {
-    let r = table::purge_reported_changes(t);
-    let answer = r.answer;
-    let table = r.table;
-    Answered {
-        reply: changed(answer),
-        table: table,
-    }
-}
-
-// Nothing to tell.
-pub(crate) fn changed(answer: Change) -> Reply {
-    match answer {
-        Change::Done => none(),
-        Change::Refused(why) => refused(why),
-    }
+fn done(t: &mut Table, v: [u64; PLACES]) -> Reply {
+    let ended = table::complete(t, narrow(v[0]), narrow(v[1]))?;
+    told(&[flag(ended.kept), flag(ended.failed)])
 }

@@ -7,21 +7,10 @@ use places::Table;
 use printing::put_field;
 use subscription::Subscription;
 
-// Above every id.
-const NO_ID: u64 = 0x1_0000_0000;
-
-// A priming found so far.
-#[derive(Clone, Copy)]
-struct Near {
-    place: usize,
-    id: u64,
-}
-
 // Puts the state and a CRLF into `out` at `at`, and answers the place after them.
-pub(crate) fn put_state(out: &mut [u8], at: usize, t: Table) -> usize {
-    let log = t.log;
+pub(crate) fn put_state(out: &mut [u8], at: usize, t: &Table) -> usize {
     let a = put_counts(out, at, t);
-    let b = put_log(out, a, log.held);
+    let b = put_log(out, a, &t.log.held);
     let c = put_stored(out, b, t);
     let d = put_report(out, c, t);
     let e = put_primings(out, d, t);
@@ -29,14 +18,13 @@ pub(crate) fn put_state(out: &mut [u8], at: usize, t: Table) -> usize {
 }
 
 // Capacity, counted places, next id, next identity and cancel reason.
-fn put_counts(out: &mut [u8], at: usize, t: Table) -> usize {
-    let log = t.log;
-    let counted = std::num::wrapping_add_u64(t.stored as u64, t.opens as u64);
-    let a = put_named(out, at, b"cap=", t.capacity as u64);
+fn put_counts(out: &mut [u8], at: usize, t: &Table) -> usize {
+    let counted = (t.stored as u64).wrapping_add(t.opens as u64);
+    let a = put_named(out, at, b"cap=", u64::from(t.capacity));
     let b = put_named(out, a, b"count=", counted);
-    let c = put_named(out, b, b"id=", t.next as u64);
-    let d = put_named(out, c, b"identity=", log.next);
-    put_named(out, d, b"cancel=", t.cancel as u64)
+    let c = put_named(out, b, b"id=", u64::from(t.next));
+    let d = put_named(out, c, b"identity=", t.log.next);
+    put_named(out, d, b"cancel=", u64::from(t.cancel))
 }
 
 fn put_named(out: &mut [u8], at: usize, name: &[u8], n: u64) -> usize {
@@ -45,163 +33,124 @@ fn put_named(out: &mut [u8], at: usize, name: &[u8], n: u64) -> usize {
 }
 
 // The entries, in their order.
-fn put_log(out: &mut [u8], at: usize, held: Held) -> usize {
-    let len = held.len;
-    let mut k = put_word(out, at, b"log=");
-    if len == 0 {
-        return put_word(out, k, b" ");
-    }
-    let mut i: usize = 0;
-    while i < 16 {
-        if len <= i {
-            return k;
-        }
-        let x = held.entries[i];
-        i += 1;
-        k = put_entry(out, k, x, behind(i, len, b';', b' '));
-    }
-    k
+fn put_log(out: &mut [u8], at: usize, held: &Held) -> usize {
+    let k = put_word(out, at, b"log=");
+    put_list(
+        out,
+        k,
+        &held.entries[..held.len.min(held.entries.len())],
+        put_entry,
+    )
 }
 
-fn put_entry(out: &mut [u8], at: usize, x: ChangedAttr, end: u8) -> usize {
+fn put_entry(out: &mut [u8], at: usize, x: &ChangedAttr, end: u8) -> usize {
     let numbers = [
-        x.endpoint as u64,
-        x.cluster as u64,
-        x.attr as u64,
+        u64::from(x.endpoint),
+        u64::from(x.cluster),
+        u64::from(x.attr),
         x.identity,
     ];
-    put_numbers(out, at, &numbers, 4, b':', end)
+    put_numbers(out, at, &numbers, b':', end)
 }
 
 // The stored ones, in their order.
-fn put_stored(out: &mut [u8], at: usize, t: Table) -> usize {
-    let stored = t.stored;
-    let mut k = put_word(out, at, b"stored=");
-    if stored == 0 {
-        return put_word(out, k, b" ");
+fn put_stored(out: &mut [u8], at: usize, t: &Table) -> usize {
+    let k = put_word(out, at, b"stored=");
+    put_list(
+        out,
+        k,
+        &t.places[..t.stored.min(t.places.len())],
+        put_subscription,
+    )
+}
+
+// Each of `xs` as `put` writes it, and a space behind the last, or alone where there is none.
+fn put_list<T, F: Fn(&mut [u8], usize, &T, u8) -> usize>(
+    out: &mut [u8],
+    at: usize,
+    xs: &[T],
+    put: F,
+) -> usize
+    requires { F.IsAlwaysCallable put }
+{
+    if xs.is_empty() {
+        return put_word(out, at, b" ");
     }
-    let mut i: usize = 0;
-    while i < 80 {
-        if stored <= i {
-            return k;
-        }
-        let x = t.places[i];
-        i += 1;
-        k = put_subscription(out, k, x, behind(i, stored, b';', b' '));
+    let mut k = at;
+    for (i, x) in xs.iter().enumerate() {
+        k = put(out, k, x, behind(i + 1, xs.len(), b';', b' '));
     }
     k
 }
 
 // The open report, if there is one.
-fn put_report(out: &mut [u8], at: usize, t: Table) -> usize {
+fn put_report(out: &mut [u8], at: usize, t: &Table) -> usize {
     let k = put_word(out, at, b"report=");
-    let i = report_place(t);
-    if i < 80 {
-        let x = t.places[i];
-        return put_open(out, k, x, b' ');
+    match open_ones(t).iter().find(|x| x.reporting) {
+        Some(x) => put_open(out, k, x, b' '),
+        None => put_word(out, k, b" "),
     }
-    put_word(out, k, b" ")
 }
 
-// The primings, in the order of their ids.
-fn put_primings(out: &mut [u8], at: usize, t: Table) -> usize {
+// The primings, in the order of their ids: each is sought by the one before, since a sorted copy would take memory.
+fn put_primings(out: &mut [u8], at: usize, t: &Table) -> usize {
     let mut k = put_word(out, at, b"primings=");
-    let mut here = priming_place(t, 0);
-    if 80 <= here {
+    let mut here = priming_after(t, None);
+    if here.is_none() {
         return put_word(out, k, b"\r");
     }
-    let mut turns: usize = 0;
-    while turns < 80 {
-        if 80 <= here {
+    for _ in 0..t.places.len() {
+        let Some(x) = here else {
             return k;
-        }
-        let x = t.places[here];
-        let next = priming_place(t, std::num::wrapping_add_u64(x.id as u64, 1));
-        k = put_open(out, k, x, behind(next, 80, b';', b'\r'));
-        here = next;
-        turns += 1;
+        };
+        here = priming_after(t, Some(x.id));
+        let end = if here.is_some() { b';' } else { b'\r' };
+        k = put_open(out, k, x, end);
     }
     k
 }
 
-fn put_subscription(out: &mut [u8], at: usize, x: Subscription, end: u8) -> usize {
+fn put_subscription(out: &mut [u8], at: usize, x: &Subscription, end: u8) -> usize {
     let a = put_terms(out, at, x);
     let numbers = [
         x.reported.ms,
         x.retry.ms,
-        x.fails as u64,
+        u64::from(x.fails),
         x.seen,
         x.heard,
-        x.rx as u64,
+        u64::from(x.rx),
     ];
-    put_numbers(out, a, &numbers, 6, b':', end)
+    put_numbers(out, a, &numbers, b':', end)
 }
 
 // Whose it is, and its intervals.
-fn put_terms(out: &mut [u8], at: usize, x: Subscription) -> usize {
+fn put_terms(out: &mut [u8], at: usize, x: &Subscription) -> usize {
     let numbers = [
-        x.id as u64,
-        x.fabric as u64,
+        u64::from(x.id),
+        u64::from(x.fabric),
         x.peer,
-        x.shortest as u64,
-        x.longest as u64,
+        u64::from(x.shortest),
+        u64::from(x.longest),
     ];
-    put_numbers(out, at, &numbers, 5, b':', b':')
+    put_numbers(out, at, &numbers, b':', b':')
 }
 
 // As stored, with what it opened with behind it.
-fn put_open(out: &mut [u8], at: usize, x: Subscription, end: u8) -> usize {
+fn put_open(out: &mut [u8], at: usize, x: &Subscription, end: u8) -> usize {
     let a = put_subscription(out, at, x, b'@');
     let numbers = [x.mark, x.events, x.opened.ms];
-    put_numbers(out, a, &numbers, 3, b':', end)
+    put_numbers(out, a, &numbers, b':', end)
 }
 
-// The place of the open report; 80 for none.
-fn report_place(t: Table) -> usize {
-    let mut i = first_open(t.opens);
-    while i < 80 {
-        if t.places[i].reporting {
-            return i;
-        }
-        i += 1;
-    }
-    80
+// The priming with the least id above `last`, or of all.
+fn priming_after(t: &Table, last: Option<u32>) -> Option<&Subscription> {
+    open_ones(t)
+        .iter()
+        .filter(|x| !x.reporting && last.is_none_or(|id| id < x.id))
+        .min_by_key(|x| x.id)
 }
 
-// The place of the priming with the least id from `from` on; 80 for none.
-fn priming_place(t: Table, from: u64) -> usize {
-    let mut near = Near {
-        place: 80,
-        id: NO_ID,
-    };
-    let mut i = first_open(t.opens);
-    while i < 80 {
-        let x = t.places[i];
-        let next = nearer(near, i, x, from);
-        near = next;
-        i += 1;
-    }
-    near.place
-}
-
-fn nearer(near: Near, place: usize, x: Subscription, from: u64) -> Near {
-    let id = x.id as u64;
-    if x.reporting {
-        return near;
-    }
-    if id < from {
-        return near;
-    }
-    if id < near.id {
-        return Near {
-            place: place,
-            id: id,
-        };
-    }
-    near
-}
-
-// Where the open ones begin, which stand at the far end.
-fn first_open(opens: usize) -> usize {
-    if opens < 80 { 80 - opens } else { 0 }
+// The open ones, which stand at the far end.
+fn open_ones(t: &Table) -> &[Subscription] {
+    &t.places[t.places.len() - t.opens.min(t.places.len())..]
 }

@@ -18,7 +18,7 @@ mod words;
 
 use cutting::{Found, Reading, close, scan, start};
 use places::Table;
-use replies::{Answered, bad};
+use refusal::Refusal;
 use std::io;
 use std::io::{Read, Write};
 
@@ -31,159 +31,88 @@ const CHUNK: usize = 65536;
 // The capacity of the table at the start.
 const CAPACITY: u8 = 80;
 
-// What goes on from line to line: the table, the line that is being read, how many bytes of the output buffer are filled, and whether
-// there is more to read.
-#[derive(Clone, Copy)]
-struct State {
+// What goes on from line to line: the table, the line that is being read and its bytes so far, and the answers that wait to be written.
+// The memory is fixed: the core has no heap.
+#[derive(Drop)]
+struct Comparison {
     table: Table,
     reading: Reading,
+    held: [u8; LINE],
+    out: [u8; CHUNK],
     filled: usize,
-    on: bool,
 }
 
-// Turn by turn to the end. A count falls at each turn, so that it ends whatever is read.
+// Read by read to the end. The reads are counted, so that it ends whatever is read. A failed read ends the program: the answers
+// gathered so far are written, and the line that it cut short is not answered.
 fn main(rt: HostRuntime) -> io::Result<()> {
     let mut input = rt.reader();
     let mut output = io::writer(&rt);
-    let mut held = [0u8; LINE];
-    let mut out = [0u8; CHUNK];
-    let new = table::new(CAPACITY);
-    let table = new.table;
-    let mut state = State {
-        table: table,
+    let mut chunk = [0u8; CHUNK];
+    let (_, table) = table::new(CAPACITY);
+    let mut comparison = Comparison {
+        table,
         reading: start(u64::MAX),
+        held: [0; LINE],
+        out: [0; CHUNK],
         filled: 0,
-        on: true,
     };
-    let mut turns = u64::MAX;
-    while 0 < turns {
-        let next = turn(&mut input, &mut output, state, &mut held, &mut out)?;
-        state = next;
-        if !next.on {
-            return Ok(());
+    for _ in 0..u64::MAX {
+        match input.read(&mut chunk) {
+            Err(e) => {
+                comparison.flushed(&mut output)?;
+                return Err(e);
+            }
+            Ok(0) => {
+                comparison.ended(&mut output)?;
+                return comparison.flushed(&mut output);
+            }
+            Ok(n) => comparison.fed(&mut output, &chunk[..n])?,
         }
-        turns -= 1;
     }
     Ok(())
 }
 
-// One read, and the lines that end in it. A failed read ends the program: the answers gathered so far are written, and the line that it
-// cut short is not answered.
-fn turn(
-    input: &mut impl Read,
-    output: &mut impl Write,
-    state: State,
-    held: &mut [u8],
-    out: &mut [u8],
-) -> io::Result<State> {
-    let mut chunk = [0u8; CHUNK];
-    match input.read(&mut chunk) {
-        Err(e) => {
-            flushed(output, stopped(state), out)?;
-            Err(e)
+impl Comparison {
+    // The lines that end in `s`.
+    fn fed(&mut self, output: &mut impl Write, s: &[u8]) -> io::Result<()> {
+        let mut rest = s;
+        // A `while`, since each turn takes as many bytes as its scan does.
+        while !rest.is_empty() {
+            let t = scan(self.reading, &mut self.held, rest);
+            self.reading = t.reading;
+            rest = &rest[t.used..];
+            self.answered(output, t.found)?;
         }
-        Ok(0) => {
-            let last = ended(output, state, held, out)?;
-            flushed(output, stopped(last), out)
+        Ok(())
+    }
+
+    // The input's end.
+    fn ended(&mut self, output: &mut impl Write) -> io::Result<()> {
+        let t = close(self.reading);
+        self.reading = t.reading;
+        self.answered(output, t.found)
+    }
+
+    // The answer to a line, if one has ended. The buffer is written out once it is half full: the other half has room for the longest
+    // answer, which takes less than 21,000 bytes.
+    fn answered(&mut self, output: &mut impl Write, found: Found) -> io::Result<()> {
+        let reply = match found {
+            Found::Nothing => return Ok(()),
+            Found::Bad => Err(Refusal::BadLine),
+            Found::Whole(n) => calls::answer(&mut self.table, &self.held[..n.min(LINE)]),
+        };
+        let k = replies::put_reply(&mut self.out, self.filled, self.reading.number, &reply);
+        self.filled = dumps::put_state(&mut self.out, k, &self.table);
+        if self.filled < CHUNK / 2 {
+            return Ok(());
         }
-        Ok(n) => fed(output, state, held, out, &chunk[..n]),
+        self.flushed(output)
     }
-}
 
-// The lines that end in `s`.
-fn fed(
-    output: &mut impl Write,
-    state: State,
-    held: &mut [u8],
-    out: &mut [u8],
-    s: &[u8],
-) -> io::Result<State> {
-    let mut now = state;
-    let mut at: usize = 0;
-    while at < s.len() {
-        let reading = now.reading;
-        let t = scan(reading, held, &s[at..]);
-        at += t.used;
-        let next = t.reading;
-        let found = t.found;
-        let after = answered(output, with_reading(now, next), held, out, found)?;
-        now = after;
-        if !after.on {
-            return Ok(after);
-        }
+    // The filled bytes written. A failed write ends the program.
+    fn flushed(&mut self, output: &mut impl Write) -> io::Result<()> {
+        output.write_all(&self.out[..self.filled.min(CHUNK)])?;
+        self.filled = 0;
+        Ok(())
     }
-    Ok(now)
-}
-
-// The input's end.
-fn ended(output: &mut impl Write, state: State, held: &[u8], out: &mut [u8]) -> io::Result<State> {
-    let reading = state.reading;
-    let t = close(reading);
-    let next = t.reading;
-    let found = t.found;
-    answered(output, with_reading(state, next), held, out, found)
-}
-
-// The answer to a line, if one has ended.
-fn answered(
-    output: &mut impl Write,
-    state: State,
-    held: &[u8],
-    out: &mut [u8],
-    found: Found,
-) -> io::Result<State> {
-    let table = state.table;
-    match found {
-        Found::Nothing => Ok(state),
-        Found::Bad => room_made(output, told(state, bad(table), out), out),
-        Found::Whole(n) => room_made(output, told(state, answer(table, held, n), out), out),
-    }
-}
-
-// The answer to the line that is the first `n` bytes held.
-fn answer(t: Table, held: &[u8], n: usize) -> Answered {
-    if n <= held.len() {
-        return calls::answer(t, &held[..n]);
-    }
-    calls::answer(t, held)
-}
-
-// The state with an answer put behind what is filled.
-fn told(mut state: State, a: Answered, out: &mut [u8]) -> State {
-    let reading = state.reading;
-    let reply = a.reply;
-    let table = a.table;
-    let k = replies::put_reply(out, state.filled, reading.number, reply);
-    state.filled = dumps::put_state(out, k, table);
-    state.table = table;
-    state
-}
-
-// The buffer is written out once it is half full: the other half has room for the longest answer, which takes less than 21,000 bytes.
-fn room_made(output: &mut impl Write, state: State, out: &[u8]) -> io::Result<State> {
-    if state.filled < out.len() / 2 {
-        return Ok(state);
-    }
-    flushed(output, state, out)
-}
-
-// The filled bytes written. A failed write ends the program.
-fn flushed(output: &mut impl Write, mut state: State, out: &[u8]) -> io::Result<State> {
-    let n = state.filled;
-    if out.len() < n {
-        return Ok(stopped(state));
-    }
-    output.write_all(&out[..n])?;
-    state.filled = 0;
-    Ok(state)
-}
-
-fn stopped(mut state: State) -> State {
-    state.on = false;
-    state
-}
-
-fn with_reading(mut state: State, reading: Reading) -> State {
-    state.reading = reading;
-    state
 }

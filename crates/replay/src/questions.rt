@@ -1,13 +1,12 @@
 // The lines of questions to a table and to its log.
-use super::replies::{Reply, one, refused, three, two};
-use super::words::{is_word, low8, low16, low32};
-use answers::{Mark, Told, flag};
+use super::replies::{Reply, told};
+use super::words::{narrow, read};
+use answers::flag;
 use changes::ChangedAttrs;
-use fields::{Numbers, read_fields};
+use fields::PLACES;
 use instants::Instant;
-use lines::{BITS8, BITS16, BITS32, BITS64, FLAG, starts};
-use places::{Alive, Loaded, Moment, Table};
-use refusal::Refusal;
+use lines::{BITS8, BITS16, BITS32, BITS64, FLAG};
+use places::Table;
 use time::KeepAlive;
 
 const ATTR: [u64; 4] = [BITS32, BITS16, BITS32, BITS32];
@@ -26,136 +25,92 @@ const CHANGED: [u64; 4] = [BITS16, BITS32, BITS32, BITS64];
 
 const SINCE: [u64; 1] = [BITS64];
 
-// The line `s` at the table `t`, if it is one of these.
-pub(crate) fn reply(t: Table, s: &[u8]) -> Reply {
-    if starts(s, b"attr,") {
-        return attribute(t, read_fields(s, 5, &ATTR));
+// The answer to the line `s` at the table `t`.
+pub(crate) fn answer(t: &Table, s: &[u8]) -> Reply {
+    if let Some(rest) = s.strip_prefix(b"attr,") {
+        return attribute(t, read(rest, &ATTR)?);
     }
-    if starts(s, b"sendempty,") {
-        return send_empty(t, read_fields(s, 10, &SEND_EMPTY));
+    if let Some(rest) = s.strip_prefix(b"sendempty,") {
+        return send_empty(t, read(rest, &SEND_EMPTY)?);
     }
-    if starts(s, b"wake,") {
-        return wake(t, read_fields(s, 5, &WAKE));
+    if let Some(rest) = s.strip_prefix(b"wake,") {
+        return wake(t, read(rest, &WAKE)?);
     }
-    if starts(s, b"any,") {
-        return any(t, read_fields(s, 4, &ANY));
+    if let Some(rest) = s.strip_prefix(b"any,") {
+        return any(t, read(rest, &ANY)?);
     }
-    if is_word(s, b"keepalive") {
-        return alive(table::next_keep_alive_at(t));
+    if s == b"keepalive".as_slice() {
+        return alive(t);
     }
-    if starts(s, b"stats,") {
-        return statistics(t, read_fields(s, 6, &STATS));
+    if let Some(rest) = s.strip_prefix(b"stats,") {
+        return statistics(t, read(rest, &STATS)?);
     }
-    if starts(s, b"has,") {
-        return has(t, read_fields(s, 4, &HAS));
+    if let Some(rest) = s.strip_prefix(b"has,") {
+        return has(t, read(rest, &HAS)?);
     }
-    asked_of_the_log(t.log, s)
+    asked_of_the_log(&t.log, s)
 }
 
 // The same, of questions that go to the log alone.
-fn asked_of_the_log(log: ChangedAttrs, s: &[u8]) -> Reply {
-    if starts(s, b"changed,") {
-        return changed(log, read_fields(s, 8, &CHANGED));
+fn asked_of_the_log(log: &ChangedAttrs, s: &[u8]) -> Reply {
+    if let Some(rest) = s.strip_prefix(b"changed,") {
+        return changed(log, read(rest, &CHANGED)?);
     }
-    if starts(s, b"anysince,") {
-        return any_since(log, read_fields(s, 9, &SINCE));
+    if let Some(rest) = s.strip_prefix(b"anysince,") {
+        let v = read(rest, &SINCE)?;
+        return told(&[flag(log.any_since(v[0])?)]);
     }
-    if is_word(s, b"watermark") {
-        return mark(log.watermark());
+    if s == b"watermark".as_slice() {
+        return told(&[log.watermark()?]);
     }
-    super::singles::reply(log, s)
+    super::singles::answer(log, s)
 }
 
-fn attribute(t: Table, n: Numbers) -> Reply {
-    if !n.all {
-        return refused(Refusal::BadLine);
-    }
-    let v = n.at;
-    told(table::should_report_attr(t, low32(v[0]), low16(v[1]), low32(v[2]), low32(v[3])))
+fn attribute(t: &Table, v: [u64; PLACES]) -> Reply {
+    let yes = table::should_report_attr(t, narrow(v[0]), narrow(v[1]), narrow(v[2]), narrow(v[3]))?;
+    told(&[flag(yes)])
 }
 
-fn send_empty(t: Table, n: Numbers) -> Reply {
-    if !n.all {
-        return refused(Refusal::BadLine);
-    }
-    let v = n.at;
-    told(table::should_send_if_empty(t, low32(v[0]), KeepAlive::of(v[1] == FLAG)))
+fn send_empty(t: &Table, v: [u64; PLACES]) -> Reply {
+    let yes = table::should_send_if_empty(t, narrow(v[0]), KeepAlive::of(v[1] == FLAG))?;
+    told(&[flag(yes)])
 }
 
-fn wake(t: Table, n: Numbers) -> Reply {
-    if !n.all {
-        return refused(Refusal::BadLine);
-    }
-    let v = n.at;
-    match table::next_report_at(t, v[0], KeepAlive::of(v[1] == FLAG)) {
-        Moment::At(x) => one(x.ms),
-        Moment::Refused(why) => refused(why),
-    }
+fn wake(t: &Table, v: [u64; PLACES]) -> Reply {
+    let next = table::next_report_at(t, v[0], KeepAlive::of(v[1] == FLAG))?;
+    told(&[next.ms])
 }
 
-fn any(t: Table, n: Numbers) -> Reply {
-    if !n.all {
-        return refused(Refusal::BadLine);
-    }
-    let v = n.at;
-    told(table::any_reportable(t, Instant::at(v[0]), v[1], KeepAlive::of(v[2] == FLAG)))
+fn any(t: &Table, v: [u64; PLACES]) -> Reply {
+    let kind = KeepAlive::of(v[2] == FLAG);
+    let yes = table::any_reportable(t, Instant::at(v[0]), v[1], kind)?;
+    told(&[flag(yes)])
 }
 
 // Whether there is one, and when.
-fn alive(answer: Alive) -> Reply {
-    match answer {
-        Alive::At(x) => two(1, x.ms),
-        Alive::Never => two(0, 0),
-        Alive::Refused(why) => refused(why),
+fn alive(t: &Table) -> Reply {
+    match table::next_keep_alive_at(t)? {
+        Some(at) => told(&[1, at.ms]),
+        None => told(&[0, 0]),
     }
 }
 
 // Counted places, the stored of the fabric, and the ids given so far.
-fn statistics(t: Table, n: Numbers) -> Reply {
-    if !n.all {
-        return refused(Refusal::BadLine);
-    }
-    let v = n.at;
-    match table::load_stats(t, low8(v[0])) {
-        Loaded::Is(x) => three(x.places as u64, x.fabric as u64, x.established as u64, 3),
-        Loaded::Refused(why) => refused(why),
-    }
+fn statistics(t: &Table, v: [u64; PLACES]) -> Reply {
+    let load = table::load_stats(t, narrow(v[0]))?;
+    told(&[
+        load.places as u64,
+        load.fabric as u64,
+        u64::from(load.established),
+    ])
 }
 
-fn has(t: Table, n: Numbers) -> Reply {
-    if !n.all {
-        return refused(Refusal::BadLine);
-    }
-    let v = n.at;
-    told(table::has_subscription_for(t, low8(v[0]), v[1]))
+fn has(t: &Table, v: [u64; PLACES]) -> Reply {
+    let yes = table::has_subscription_for(t, narrow(v[0]), v[1])?;
+    told(&[flag(yes)])
 }
 
-fn changed(log: ChangedAttrs, n: Numbers) -> Reply {
-    if !n.all {
-        return refused(Refusal::BadLine);
-    }
-    let v = n.at;
-    told(log.contains_since(low16(v[0]), low32(v[1]), low32(v[2]), v[3]))
-}
-
-fn any_since(log: ChangedAttrs, n: Numbers) -> Reply {
-    if !n.all {
-        return refused(Refusal::BadLine);
-    }
-    let v = n.at;
-    told(log.any_since(v[0]))
-}
-
-fn mark(answer: Mark) -> Reply {
-    match answer {
-        Mark::At(identity) => one(identity),
-        Mark::Refused(why) => refused(why),
-    }
-}
-
-fn told(answer: Told) -> Reply {
-    match answer {
-        Told::Is(yes) => one(flag(yes)),
-        Told::Refused(why) => refused(why),
-    }
+fn changed(log: &ChangedAttrs, v: [u64; PLACES]) -> Reply {
+    let yes = log.contains_since(narrow(v[0]), narrow(v[1]), narrow(v[2]), v[3])?;
+    told(&[flag(yes)])
 }

@@ -1,15 +1,15 @@
 // The lines of rounds: settings, the length of the id slice, and as many outcomes as follow.
-ghost use Rattle.std.specs.Prelude.{◌≡◌, ◌≤◌, length};
+ghost use Rattle.std.specs.Prelude.{◌≤◌, length, IfSome};
 
 use super::calls::settings;
-use super::replies::{Answered, Reply, VALUES, acted, bad, refused};
-use super::words::low8;
+use super::replies::{Reply, VALUES, told};
+use super::words::{narrow, read};
 use answers::flag;
-use fields::{Field, read_field, read_fields};
-use lines::{BITS8, BITS64, FLAG, starts};
+use fields::read_field;
+use lines::{BITS8, BITS64, FLAG};
 use places::Table;
-use round::{Ending, Rounding};
-use subscription::Settings;
+use refusal::Refusal;
+use round::Ending;
 
 // Settings and slots.
 const ROUND: [u64; 5] = [BITS64, BITS64, FLAG, FLAG, BITS8];
@@ -23,130 +23,57 @@ const SLOTS: usize = 255;
 // What a place of the slice holds before the round, its number added.
 const UNWRITTEN: u32 = 900_000_000;
 
-// How many outcomes were read, if `all` that follows is outcomes.
-#[derive(Clone, Copy)]
-struct Outcomes {
-    count: usize,
-    all: bool,
-}
-
-// The line `s` at the table `t`, if it is a round.
-pub(crate) fn answer(t: Table, s: &[u8]) -> Answered {
-    if starts(s, b"round,") {
-        return round_line(t, s);
+// The answer to the line `s` at the table `t`.
+pub(crate) fn answer(t: &mut Table, s: &[u8]) -> Reply {
+    if let Some(rest) = s.strip_prefix(b"round,") {
+        return round_line(t, rest);
     }
     super::logs::answer(t, s)
 }
 
-fn round_line(t: Table, s: &[u8]) -> Answered {
-    let end = head(s);
-    let n = read_fields(&s[..end], 6, &ROUND);
+fn round_line(t: &mut Table, s: &[u8]) -> Reply {
+    let (front, behind) = s.split_at(head(s));
+    let v = read(front, &ROUND)?;
     let mut outcomes = [0u8; OUTCOMES];
-    let k = read_outcomes(&s[end..], &mut outcomes);
-    if !n.all {
-        return bad(t);
-    }
-    if !k.all {
-        return bad(t);
-    }
-    let v = n.at;
-    let count = k.count;
+    let count = read_outcomes(behind, &mut outcomes).ok_or(Refusal::BadLine)?;
     let mut ids = unwritten();
-    let slots = low8(v[4]) as usize;
-    made_with(t, settings(v), &outcomes[..count], &mut ids[..slots])
+    let slots = usize::from(narrow::<u8>(v[4]));
+    let lent = &mut ids[..slots];
+    let ending = round::round(t, settings(v), &outcomes[..count], lent)?;
+    made(ending, lent)
 }
 
-// Where the sixth comma stands, behind the word, the settings and the slots; the line's end, where there is none.
+// Where the fifth comma stands, behind the settings and the slots; the line's end, where there is none.
 fn head(s: &[u8]) -> usize
     ensures { result ≤ length s.now }
 {
-    let mut left: u64 = 6;
-    let mut i: usize = 0;
-    while i < s.len() {
-        left = left_behind(left, s[i]);
-        if left == 0 {
-            return i;
-        }
-        i += 1;
-    }
-    i
+    let mut commas = s.iter().enumerate().filter(|(_, b)| **b == b',');
+    commas.nth(4).map_or(s.len(), |(i, _)| i)
 }
 
-// How many commas are left to find, behind the byte `b`.
-fn left_behind(left: u64, b: u8) -> u64 {
-    if b == b',' {
-        if 0 < left {
-            return left - 1;
-        }
-    }
-    left
-}
-
-// The outcomes of `s`, each behind its comma; none where nothing follows.
-fn read_outcomes(s: &[u8], into: &mut [u8]) -> Outcomes
-    ensures { result.count ≤ length into.old }
+// How many outcomes `s` has, each behind its comma, which are put into `into`; none where it is no such part.
+fn read_outcomes(s: &[u8], into: &mut [u8]) -> Option<usize>
+    ensures { IfSome result (λ n. n ≤ length into.old) }
 {
-    if s.len() == 0 {
-        return Outcomes {
-            count: 0,
-            all: true,
+    let Some((_, mut rest)) = s.split_first() else {
+        return Some(0);
+    };
+    for (i, place) in into.iter_mut().enumerate() {
+        let field = read_field(rest, BITS8)?;
+        *place = narrow(field.value);
+        let Some(next) = field.next else {
+            return Some(i + 1);
         };
+        rest = &rest[next..];
     }
-    let mut at: usize = 1;
-    let mut count: usize = 0;
-    while count < into.len() {
-        match read_field(&s[at..], BITS8) {
-            Field::Bad => {
-                return Outcomes {
-                    count: 0,
-                    all: false,
-                };
-            }
-            Field::Last(x) => {
-                into[count] = low8(x);
-                return Outcomes {
-                    count: count + 1,
-                    all: true,
-                };
-            }
-            Field::More { value, next } => {
-                into[count] = low8(value);
-                at += next;
-                count += 1;
-            }
-        }
-    }
-    Outcomes {
-        count: 0,
-        all: false,
-    }
-}
-
-fn made_with(t: Table, at: Settings, outcomes: &[u8], ids: &mut [u32]) -> Answered {
-    let r = round::round(t, at, outcomes, ids);
-    let answer = r.answer;
-    let table = r.table;
-    match answer {
-        Rounding::Made(x) => Answered {
-            reply: made(x, ids),
-            table: table,
-        },
-        Rounding::Refused(why) => Answered {
-            reply: refused(why),
-            table: table,
-        },
-    }
+    None
 }
 
 // The slice of ids before the round.
-fn unwritten() -> [u32; SLOTS]
-    ensures { length result ≡ 255 }
-{
+fn unwritten() -> [u32; SLOTS] {
     let mut ids = [0u32; SLOTS];
-    let mut i: u32 = 0;
-    while i < 255 {
-        ids[i as usize] = UNWRITTEN + i;
-        i += 1;
+    for (id, n) in ids.iter_mut().zip(UNWRITTEN..) {
+        *id = n;
     }
     ids
 }
@@ -156,17 +83,8 @@ fn made(x: Ending, ids: &[u32]) -> Reply {
     let mut values = [0u64; VALUES];
     values[0] = x.handouts as u64;
     values[1] = flag(x.silent);
-    let mut i: usize = 0;
-    while i < ids.len() {
-        if SLOTS <= i {
-            return acted(values, VALUES);
-        }
-        values[i + 2] = wide(ids[i]);
-        i += 1;
+    for (value, id) in values[2..].iter_mut().zip(ids) {
+        *value = u64::from(*id);
     }
-    acted(values, i + 2)
-}
-
-fn wide(id: u32) -> u64 {
-    id as u64
+    told(&values[..ids.len().min(SLOTS) + 2])
 }

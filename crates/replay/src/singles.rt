@@ -1,12 +1,11 @@
 // The line of one subscription that stands in no table: what is decided about it alone, against the present log.
-use super::replies::{Reply, VALUES, acted, refused};
-use super::words::{low8, low16};
-use answers::flag;
+use super::replies::{Reply, told};
+use super::words::{narrow, read};
+use answers::{flag, is_yes};
 use changes::ChangedAttrs;
-use fields::{Numbers, PLACES, read_fields};
+use fields::PLACES;
 use instants::Instant;
-use lines::{BITS8, BITS16, BITS64, FLAG, starts};
-use refusal::Refusal;
+use lines::{BITS8, BITS16, BITS64, FLAG};
 use subscription::{Settings, Subscription};
 use time::KeepAlive;
 
@@ -15,19 +14,15 @@ const SINGLE: [u64; 11] = [
     BITS16, BITS16, BITS64, BITS64, BITS8, BITS64, BITS64, BITS64, BITS64, FLAG, FLAG,
 ];
 
-// The line `s` with the log, if it is this one.
-pub(crate) fn reply(log: ChangedAttrs, s: &[u8]) -> Reply {
-    if starts(s, b"single,") {
-        return single(log, read_fields(s, 7, &SINGLE));
+// The answer to the line `s` with the log.
+pub(crate) fn answer(log: &ChangedAttrs, s: &[u8]) -> Reply {
+    if let Some(rest) = s.strip_prefix(b"single,") {
+        return single(log, read(rest, &SINGLE)?);
     }
-    super::times::reply(s)
+    super::times::answer(s)
 }
 
-fn single(log: ChangedAttrs, n: Numbers) -> Reply {
-    if !n.all {
-        return refused(Refusal::BadLine);
-    }
-    let v = n.at;
+fn single(log: &ChangedAttrs, v: [u64; PLACES]) -> Reply {
     let x = subscription(v);
     let at = Settings {
         now: Instant::at(v[7]),
@@ -35,43 +30,31 @@ fn single(log: ChangedAttrs, n: Numbers) -> Reply {
         kind: KeepAlive::of(v[9] == FLAG),
         all: v[10] == FLAG,
     };
-    decided(x, at, log.any_since(v[5]).is_yes())
+    decided(x, at, is_yes(log.any_since(v[5])))
 }
 
 // Allowed, due, change pending, event pending, reportable, next instant.
 fn decided(x: Subscription, at: Settings, changed: bool) -> Reply {
-    let now = at.now;
-    let kind = at.kind;
-    let allowed = x.report_allowed_at();
-    let due = x.report_due_at(kind);
-    let next = x.next_report_at(changed, at.events, kind);
-    let mut values = [0u64; VALUES];
-    values[0] = allowed.ms;
-    values[1] = due.ms;
-    values[2] = flag(x.is_pending(changed, 0));
-    values[3] = flag(x.is_pending(false, at.events));
-    values[4] = flag(x.is_reportable(now, changed, at.events, kind, at.all));
-    values[5] = next.ms;
-    acted(values, 6)
+    told(&[
+        x.report_allowed_at().ms,
+        x.report_due_at(at.kind).ms,
+        flag(x.is_pending(changed, 0)),
+        flag(x.is_pending(false, at.events)),
+        flag(x.is_reportable(at, changed)),
+        x.next_report_at(changed, at.events, at.kind).ms,
+    ])
 }
 
 // With no name and no peer, since no decision asks for them.
 fn subscription(v: [u64; PLACES]) -> Subscription {
     Subscription {
-        peer: 0,
+        shortest: narrow(v[0]),
+        longest: narrow(v[1]),
         reported: Instant::at(v[2]),
         retry: Instant::at(v[3]),
+        fails: narrow(v[4]),
         seen: v[5],
         heard: v[6],
-        mark: 0,
-        events: 0,
-        opened: Instant::FIRST,
-        id: 0,
-        shortest: low16(v[0]),
-        longest: low16(v[1]),
-        rx: 0,
-        fabric: 0,
-        fails: low8(v[4]),
-        reporting: false,
+        ..Subscription::BLANK
     }
 }

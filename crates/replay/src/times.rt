@@ -1,10 +1,10 @@
 // The lines of instants and intervals, which take no state. A line that none of the files before knew either is bad.
-use super::replies::{Reply, one, refused};
-use super::words::{low8, low16, low32};
+use super::replies::{Reply, told};
+use super::words::{narrow, read};
 use answers::flag;
-use fields::{Numbers, read_fields};
+use fields::PLACES;
 use instants::Instant;
-use lines::{BITS8, BITS16, BITS32, BITS64, FLAG, starts};
+use lines::{BITS8, BITS16, BITS32, BITS64, FLAG};
 use refusal::Refusal;
 use time::KeepAlive;
 
@@ -18,62 +18,52 @@ const SUB_MAX: [u64; 4] = [BITS16, BITS16, BITS16, BITS16];
 
 const EXPIRED: [u64; 3] = [BITS64, BITS16, BITS64];
 
-// The line `s`, if it is one of these.
-pub(crate) fn reply(s: &[u8]) -> Reply {
-    if starts(s, b"backoff,") {
-        return backoff(read_fields(s, 8, &BACKOFF));
+// The answer to the line `s`.
+pub(crate) fn answer(s: &[u8]) -> Reply {
+    if let Some(rest) = s.strip_prefix(b"backoff,") {
+        return backoff(read(rest, &BACKOFF)?);
     }
-    if starts(s, b"dueafter,") {
-        return due_after(read_fields(s, 9, &DUE_AFTER));
+    if let Some(rest) = s.strip_prefix(b"dueafter,") {
+        return due_after(read(rest, &DUE_AFTER)?);
     }
-    if starts(s, b"icdmax,") {
-        return icd_max(read_fields(s, 7, &ICD_MAX));
+    if let Some(rest) = s.strip_prefix(b"icdmax,") {
+        return icd_max(read(rest, &ICD_MAX)?);
     }
-    if starts(s, b"submax,") {
-        return sub_max(read_fields(s, 7, &SUB_MAX));
+    if let Some(rest) = s.strip_prefix(b"submax,") {
+        return sub_max(read(rest, &SUB_MAX)?);
     }
-    if starts(s, b"expired,") {
-        return expired(read_fields(s, 8, &EXPIRED));
+    if let Some(rest) = s.strip_prefix(b"expired,") {
+        return expired(read(rest, &EXPIRED)?);
     }
-    refused(Refusal::BadLine)
+    Err(Refusal::BadLine)
 }
 
-fn backoff(n: Numbers) -> Reply {
-    if !n.all {
-        return refused(Refusal::BadLine);
-    }
-    let v = n.at;
-    one(time::retry_backoff_secs(low8(v[0]), low16(v[1])) as u64)
+fn backoff(v: [u64; PLACES]) -> Reply {
+    let secs = time::retry_backoff_secs(narrow(v[0]), narrow(v[1]));
+    told(&[u64::from(secs)])
 }
 
-fn due_after(n: Numbers) -> Reply {
-    if !n.all {
-        return refused(Refusal::BadLine);
-    }
-    let v = n.at;
-    one(KeepAlive::of(v[1] == FLAG).due_after_secs(low16(v[0])) as u64)
+fn due_after(v: [u64; PLACES]) -> Reply {
+    let secs = KeepAlive::of(v[1] == FLAG).due_after_secs(narrow(v[0]));
+    told(&[u64::from(secs)])
 }
 
-fn icd_max(n: Numbers) -> Reply {
-    if !n.all {
-        return refused(Refusal::BadLine);
-    }
-    let v = n.at;
-    one(time::icd_max_int_secs(low32(v[0]), low16(v[1])) as u64)
+fn icd_max(v: [u64; PLACES]) -> Reply {
+    let secs = time::icd_max_int_secs(narrow(v[0]), narrow(v[1]));
+    told(&[u64::from(secs)])
 }
 
-fn sub_max(n: Numbers) -> Reply {
-    if !n.all {
-        return refused(Refusal::BadLine);
-    }
-    let v = n.at;
-    one(time::subscription_max_int_secs(low16(v[0]), low16(v[1]), low16(v[2]), low16(v[3])) as u64)
+fn sub_max(v: [u64; PLACES]) -> Reply {
+    let secs = time::subscription_max_int_secs(
+        narrow(v[0]),
+        narrow(v[1]),
+        narrow(v[2]),
+        narrow(v[3]),
+    );
+    told(&[u64::from(secs)])
 }
 
-fn expired(n: Numbers) -> Reply {
-    if !n.all {
-        return refused(Refusal::BadLine);
-    }
-    let v = n.at;
-    one(flag(time::is_expired(Instant::at(v[0]), low16(v[1]), Instant::at(v[2]))))
+fn expired(v: [u64; PLACES]) -> Reply {
+    let yes = time::is_expired(Instant::at(v[0]), narrow(v[1]), Instant::at(v[2]));
+    told(&[flag(yes)])
 }

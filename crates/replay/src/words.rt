@@ -1,31 +1,17 @@
-// Words and widths of a line. Every slice and every number is taken.
-ghost use Rattle.std.specs.Prelude.{◌≡◌, ◌%◌, ◌^◌};
+// Fields of a line as numbers of their widths. Every number is taken; which width a field has is said where it is read.
+use fields::{PLACES, read_fields};
+use refusal::Refusal;
 
-use lines::starts;
-
-// Whether the whole of `s` is `word`.
-pub(crate) fn is_word(s: &[u8], word: &[u8]) -> bool {
-    if s.len() == word.len() {
-        return starts(s, word);
-    }
-    false
+// The fields behind a line's word; a line that has others is bad.
+pub(crate) fn read(s: &[u8], widths: &[u64]) -> Result<[u64; PLACES], Refusal> {
+    read_fields(s, 0, widths).ok_or(Refusal::BadLine)
 }
 
-// The low 8, 16 and 32 bits of a field: all of it, where it was read within its width.
-pub(crate) fn low8(x: u64) -> u8
-    ensures { result ≡ x % 2 ^ 8 }
+// A field as a number of the width that it was read within; any number above that width would be 0.
+pub(crate) fn narrow<T: TryFrom<u64> + Default>(x: u64) -> T
+where
+    T: Drop,
+    T::Error: Drop,
 {
-    (x % 0x100) as u8
-}
-
-pub(crate) fn low16(x: u64) -> u16
-    ensures { result ≡ x % 2 ^ 16 }
-{
-    (x % 0x1_0000) as u16
-}
-
-pub(crate) fn low32(x: u64) -> u32
-    ensures { result ≡ x % 2 ^ 32 }
-{
-    (x % 0x1_0000_0000) as u32
+    T::try_from(x).unwrap_or_default()
 }

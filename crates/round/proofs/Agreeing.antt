@@ -1,5 +1,7 @@
 -- Turn by turn a round of a well-kept table is the machine's at the state that the table stands for: a report and a completion that agree.
 -- Assumes nothing.
+use Rattle.refusal.specs.declared.Refusal.{Refusal}
+use Rattle.std.specs.Prelude.{Option, Some, None, Result, Ok, Err}
 use mathlib.Core.Path.{◌≡◌, refl, sym, ap, ◌∙◌}
 use mathlib.Core.Bool.{Bool, true, false, not, ◌&&◌}
 use mathlib.Core.List.{List, [], ◌∷◌}
@@ -7,19 +9,16 @@ use Prim.Native.Nat.{ℕ, ◌+◌}
 use lib.ListN.{set}
 use Rattle.subscription.specs.declared.Settings.{Settings}
 use Rattle.places.specs.declared.Table.{Table}
-use Rattle.places.specs.declared.HandOut.{HandOut}
-use Rattle.places.specs.declared.HandOut.TheVariants as hand_out
-use Rattle.round.specs.declared.Served.{Served}
-use Rattle.round.specs.declared.Turn.{Turn}
+use Rattle.places.specs.declared.Handed.{Handed}
 use Rattle.lists.specs.Search.{some}
 use Rattle.rules.specs.States.{report_open, well_kept}
-use Rattle.rules.specs.Machine.{Turn as Stand, outcome, bad_outcome, ready, next_up, reported, turned, round_from, step}
+use Rattle.rules.specs.Machine.{Turn as Stand, outcome, bad_outcome, ready, next_up, reported, turned as turned_by, round_from, step}
 use Rattle.rules.specs.Rounds.{handed_id}
 use Rattle.places.specs.Views.{view, kept}
 use Rattle.places.specs.Tidiness.{Whole}
 use Rattle.places.specs.Calls.{report_in, complete_in}
-use Rattle.places.specs.Agreement.{hand_out_answer, report_says}
-use Rattle.round.specs.Rounds.{refuses, is_shut, says_nothing, is_silent, no_turn, turn_after, turn_of, served}
+use Rattle.places.specs.Agreement.{hand_out_answer, report_says, answer_by}
+use Rattle.round.specs.Rounds.{refuses, is_shut, says_nothing, is_silent, turn_after, turn_of, served, Turn, Served, stood, turned}
 use Rattle.rules.specs.Calls as call
 use Rattle.lists.proofs.Bools.{split, or_neither}
 use Rattle.lists.proofs.Counts.{some_cons}
@@ -43,23 +42,23 @@ pub record Fine (t : Table) : Type 0 where
 
 -- a turn by whom the machine's answer hands out
 abbrev turn_by : List ℕ → Table → ℕ → Turn
-turn_by [] t o = no_turn t
-turn_by (id ∷ rest) t o = record { made = true; id = id; table = (complete_in t id o).table }
+turn_by [] t o = turned None t
+turn_by (id ∷ rest) t o = turned (Some id) (complete_in t id o).table
 
-turn_by_lem : (a : HandOut) (t : Table) (o : ℕ) → turn_after a t o ≡ turn_by (handed_id (hand_out_answer a)) t o
-turn_by_lem (hand_out.To x) t o = refl
-turn_by_lem hand_out.Nothing t o = refl
-turn_by_lem (hand_out.Refused why) t o = refl
+turn_by_lem : (a : Result (Option Handed) Refusal) (t : Table) (o : ℕ) → turn_after a t o ≡ turn_by (handed_id (answer_by hand_out_answer a)) t o
+turn_by_lem (Ok (Some x)) t o = refl
+turn_by_lem (Ok None) t o = refl
+turn_by_lem (Err why) t o = refl
 
 -- a report says Nothing where it is not refused and hands nobody out
 abbrev nobody_in : List ℕ → Bool
 nobody_in [] = true
 nobody_in (id ∷ rest) = false
 
-silent_by : (a : HandOut) → says_nothing a ≡ (nobody_in (handed_id (hand_out_answer a)) && not (refuses a))
-silent_by (hand_out.To x) = refl
-silent_by hand_out.Nothing = refl
-silent_by (hand_out.Refused why) = refl
+silent_by : (a : Result (Option Handed) Refusal) → says_nothing a ≡ (nobody_in (handed_id (answer_by hand_out_answer a)) && not (refuses a))
+silent_by (Ok (Some x)) = refl
+silent_by (Ok None) = refl
+silent_by (Err why) = refl
 
 module _ (at : Settings) (t : Table) (f : Fine t) where
   well_kept_lem : kept t ≡ true
@@ -87,7 +86,7 @@ module _ (at : Settings) (t : Table) (f : Fine t) where
     still_view : view (report_in t at).table ≡ view t
     still_view = ap (λ o. o.state) still
 
-    still_turn : (o : ℕ) → turn_of t at o ≡ no_turn (report_in t at).table
+    still_turn : (o : ℕ) → turn_of t at o ≡ turned None (report_in t at).table
     unfolding turn_of
     still_turn o =
         turn_by_lem (report_in t at).answer (report_in t at).table o
@@ -118,13 +117,13 @@ module _ (at : Settings) (t : Table) (f : Fine t) where
       abbrev after : Table
       after = (complete_in (report_in t at).table id o).table
 
-      made_turn : turn_of t at o ≡ record { made = true; id = id; table = after }
+      made_turn : turn_of t at o ≡ turned (Some id) after
       unfolding turn_of
       made_turn =
           turn_by_lem (report_in t at).answer (report_in t at).table o
           ∙ ap (λ p. turn_by (handed_id p.answer) (report_in t at).table o) handed
 
-      made_view : (n : ℕ) (ids : List ℕ) → view after ≡ (turned at o (record { hand_outs = n; ids = ids; state = view t })).state
+      made_view : (n : ℕ) (ids : List ℕ) → view after ≡ (turned_by at o (record { hand_outs = n; ids = ids; state = view t })).state
       made_view n ids =
           let u = (report_in t at).table in
           let same : view u ≡ (reported at (view t)).state = ap (λ p. p.state) handed in
@@ -161,7 +160,7 @@ serve_agrees at (o ∷ os) n ids t f good =
     (λ e. let more = serve_agrees at os (n + 1) (set ids n (next_up at (view t)).id) _ (made_fine at t f e o w.0) w.1 in
     rw (made_turn at t f e o w.0, round_goes_on at o os (record { hand_outs = n; ids = ids; state = view t }) e, served)
     (rw (made_turn at t f e o w.0, ← made_view at t f e o w.0 n ids) more))
-    (λ e. let over : Ends (record { handouts = n; table = (report_in t at).table }, ids) (record { hand_outs = n; ids = ids; state = view t }) =
+    (λ e. let over : Ends (stood n (report_in t at).table, ids) (record { hand_outs = n; ids = ids; state = view t }) =
     record {
       same = ap (λ s. record { hand_outs = n; ids = ids; state = s }) (still_view at t f e);
       fine = still_fine at t f e;

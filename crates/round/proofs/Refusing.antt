@@ -1,10 +1,9 @@
 -- How a round comes to its refusal: 7 first, then its slices, then an open report, which is where a report is refused.
 -- Assumes nothing.
+use Rattle.std.specs.Prelude.{Option, Some, None, Result, Ok, Err}
 use mathlib.Core.Path.{◌≡◌, refl, ap, ◌∙◌}
 use mathlib.Core.Bool.{Bool, true, false}
 use mathlib.Core.List.{List, [], ◌∷◌}
-use mathlib.Core.Option.{Option, none}
-use mathlib.Core.Option.{some as just}
 use Prim.Native.Nat.{ℕ}
 use borrow.Author.Tests.{eqb-true, not-false}
 use lib.ListN.{length}
@@ -13,14 +12,13 @@ use Rattle.refusal.specs.declared.Refusal.{Refusal}
 use Rattle.refusal.specs.declared.Refusal.TheVariants.{BadArgument, ReportOpen}
 use Rattle.subscription.specs.declared.Settings.{Settings}
 use Rattle.places.specs.declared.Table.{Table}
-use Rattle.places.specs.declared.HandOut.{HandOut}
-use Rattle.places.specs.declared.HandOut.TheVariants as hand_out
+use Rattle.places.specs.declared.Handed.{Handed}
 use Rattle.rules.specs.States.{report_open}
 use Rattle.rules.specs.Machine.{bad_outcome, first_of}
 use Rattle.rules.specs.Numbers.{refusal_of}
 use Rattle.places.specs.Views.{view, kept, refusal_at}
 use Rattle.places.specs.Calls.{report_in}
-use Rattle.places.specs.Agreement.{hand_out_answer}
+use Rattle.places.specs.Agreement.{hand_out_answer, answer_by}
 use Rattle.round.specs.Rounds.{bad_slices, refuses, is_shut}
 use Rattle.rules.specs.Calls as call
 use Rattle.lists.proofs.Bools.{split, or_neither}
@@ -30,14 +28,14 @@ use Rattle.places.proofs.Refusing.{state_kept, past_kept}
 use Rattle.places.proofs.ReportAgrees.{report_agrees}
 
 present : Option Refusal → Bool
-present none = false
-present (just why) = true
+present None = false
+present (Some why) = true
 
-refuses_is : (a : HandOut) → refuses a ≡ present (refusal_of (hand_out_answer a))
+refuses_is : (a : Result (Option Handed) Refusal) → refuses a ≡ present (refusal_of (answer_by hand_out_answer a))
 unfolding present
-refuses_is (hand_out.To x) = refl
-refuses_is hand_out.Nothing = refl
-refuses_is (hand_out.Refused why) = refl
+refuses_is (Ok (Some x)) = refl
+refuses_is (Ok None) = refl
+refuses_is (Err why) = refl
 
 module _ (t : Table) (h : kept t ≡ true) where
   -- of a well-kept table a report is refused exactly where one is open
@@ -58,14 +56,14 @@ module _ (t : Table) (h : kept t ≡ true) where
     judged : refusal_at (call.round at os ids) t ≡ first_of ((bad_slices os (length ids), BadArgument) ∷ (report_open (view t), ReportOpen) ∷ [])
     judged = past_kept t h (call.round at os ids) ∙ ap first_of (round_objects (view t) at os ids)
 
-    pub refused_slices : bad_slices os (length ids) ≡ true → refusal_at (call.round at os ids) t ≡ just BadArgument
+    pub refused_slices : bad_slices os (length ids) ≡ true → refusal_at (call.round at os ids) t ≡ Some BadArgument
     refused_slices b = judged ∙ first_holds BadArgument _ b
 
     module _ (good : bad_slices os (length ids) ≡ false) where
-      pub refused_shut : report_open (view t) ≡ true → refusal_at (call.round at os ids) t ≡ just ReportOpen
+      pub refused_shut : report_open (view t) ≡ true → refusal_at (call.round at os ids) t ≡ Some ReportOpen
       refused_shut b = judged ∙ first_passed BadArgument _ good ∙ first_holds ReportOpen [] b
 
-      pub not_refused : report_open (view t) ≡ false → refusal_at (call.round at os ids) t ≡ none
+      pub not_refused : report_open (view t) ≡ false → refusal_at (call.round at os ids) t ≡ None
       not_refused b = judged ∙ first_passed BadArgument _ good ∙ first_passed ReportOpen [] b ∙ first_none
 
 -- slices that are not bad are of equal length

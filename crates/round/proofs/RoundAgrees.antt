@@ -1,9 +1,10 @@
 -- A round of a well-kept table is the machine's at the state that the table stands for: the same answer, the same ids, the same state.
 -- Assumes nothing.
+use Rattle.places.specs.Calls.{refused_in}
+use Rattle.std.specs.Prelude.{None}
 use mathlib.Core.Path.{◌≡◌, refl, sym, ap, ◌∙◌}
 use mathlib.Core.Bool.{true, not}
 use mathlib.Core.List.{List}
-use mathlib.Core.Option.{none}
 use Prim.Native.Nat.{ℕ}
 use lib.ListN.{length}
 use Rattle.subscription.specs.declared.Settings.{Settings}
@@ -12,7 +13,7 @@ use Rattle.lists.specs.Search.{some}
 use Rattle.rules.specs.Machine.{bad_outcome, first_of, outcome, ready, act, step}
 use Rattle.places.specs.Views.{view, kept, refusal_at}
 use Rattle.places.specs.Tidiness.{Whole}
-use Rattle.round.specs.Rounds.{not_rounded, is_silent, served, made, round_of}
+use Rattle.round.specs.Rounds.{is_silent, served, made, round_of}
 use Rattle.round.specs.Agreement.{round_says}
 use Rattle.rules.specs.Calls as call
 use Rattle.lists.proofs.Bools.{split, or_neither}
@@ -31,7 +32,7 @@ silence_agrees at t f =
     (λ e. still_silent at t f e ∙ sym (ap not e))
 
 module _ (t : Table) (long : length t.places ≡ 80) (h : kept t ≡ true) (at : Settings) (os ids : List ℕ) where
-  acted_same : refusal_at (call.round at os ids) t ≡ none → round_says (made at (served at os 0 ids t)) ≡ act (call.round at os ids) (view t)
+  acted_same : refusal_at (call.round at os ids) t ≡ None → round_says (made at (served at os 0 ids t)) ≡ act (call.round at os ids) (view t)
   acted_same e =
       let a = unobjected _ _ _ (sym (past_kept t h (call.round at os ids) ∙ ap first_of (round_objects (view t) at os ids)) ∙ e) in
       let shut = (unobjected _ _ _ a.1).0 in
@@ -46,4 +47,4 @@ module _ (t : Table) (long : length t.places ≡ 80) (h : kept t ≡ true) (at :
   -- its count is the hand-outs of the machine's step
   pub round_agrees : round_says (round_of t at os ids) ≡ step (call.round at os ids) (view t)
   unfolding round_of
-  round_agrees = agreeing round_says t (call.round at os ids) (λ why. (not_rounded t why, ids)) (made at (served at os 0 ids t)) (λ why. refl) h acted_same
+  round_agrees = agreeing round_says t (call.round at os ids) (λ why. (refused_in t why, ids)) (made at (served at os 0 ids t)) (λ why. refl) h acted_same

@@ -3,184 +3,104 @@
 #![tactic(auto)]
 
 ghost use Rattle.std.specs.Prelude.{◌≡◌, length};
-ghost use Rattle.lists.specs.Search.{some};
+ghost use Rattle.std.specs.List.{list_any};
 ghost use Rattle.rules.specs.Machine.{bad_outcome};
-ghost use Rattle.round.specs.Rounds.{bad_slices, is_shut, is_silent, no_turn, turn_of, served, not_rounded, round_of};
+ghost use Rattle.places.specs.Calls.{tabled};
+ghost use Rattle.round.specs.Rounds.{bad_slices, is_shut, is_silent, turned, turn_of, stood, served, round_of};
 
-use places::{HandOut, Table};
+use places::Table;
 use refusal::Refusal;
 use subscription::{ABANDONED, Settings};
 
 // What a round is told: how many were handed out, and whether nothing stored is reportable then.
-#[derive(Clone, Copy)]
+#[derive(Clone, Copy, Debug, PartialEq, Eq)]
 pub struct Ending {
     pub handouts: usize,
     pub silent: bool,
 }
 
-#[derive(Clone, Copy)]
-pub enum Rounding {
-    Made(Ending),
-    Refused(Refusal),
-}
-
-#[derive(Clone, Copy)]
-pub struct Rounded {
-    pub answer: Rounding,
-    pub table: Table,
-}
-
-// Whether a turn handed somebody out, whom, and the table once the report has ended.
-#[derive(Clone, Copy)]
-pub struct Turn {
-    pub made: bool,
-    pub id: u32,
-    pub table: Table,
-}
-
-// How many were handed out, and the table then.
-#[derive(Clone, Copy)]
-pub struct Served {
-    pub handouts: usize,
-    pub table: Table,
-}
-
 // Reports and completes at one instant until nobody is reportable or the outcomes end.
-pub fn round(table: Table, at: Settings, outcomes: &[u8], ids: &mut [u32]) -> Rounded
-    ensures { (result, ids.new) ≡ round_of table at outcomes.now ids.old }
+pub fn round(
+    table: &mut Table,
+    at: Settings,
+    outcomes: &[u8],
+    ids: &mut [u32],
+) -> Result<Ending, Refusal>
+    ensures { (tabled result table.new, ids.new) ≡ round_of table.old at outcomes.now ids.old }
 {
     if !table::is_kept(table) {
-        return not_rounded(table, Refusal::NotWellKept);
+        return Err(Refusal::NotWellKept);
     }
     if are_bad(outcomes, ids.len()) {
-        return not_rounded(table, Refusal::BadArgument);
+        return Err(Refusal::BadArgument);
     }
-    if is_shut(table, at) {
-        return not_rounded(table, Refusal::ReportOpen);
+    if is_shut(*table, at) {
+        return Err(Refusal::ReportOpen);
     }
-    let end = serve(table, at, outcomes, ids);
-    let after = end.table;
-    Rounded {
-        answer: Rounding::Made(Ending {
-            handouts: end.handouts,
-            silent: is_silent(after, at),
-        }),
-        table: after,
-    }
-}
-
-fn not_rounded(table: Table, why: Refusal) -> Rounded
-    ensures { result ≡ not_rounded table why }
-{
-    Rounded {
-        answer: Rounding::Refused(why),
-        table: table,
-    }
+    let handouts = serve(table, at, outcomes, ids);
+    Ok(Ending {
+        handouts,
+        silent: is_silent(*table, at),
+    })
 }
 
 // Whether an outcome is none, reached or not, or there are not as many ids as outcomes.
 fn are_bad(outcomes: &[u8], ids: usize) -> bool
     ensures { result ≡ bad_slices outcomes.now ids }
 {
-    if has_bad(outcomes) {
-        return true;
-    }
-    outcomes.len() != ids
+    has_bad(outcomes) || outcomes.len() != ids
 }
 
 fn has_bad(outcomes: &[u8]) -> bool
-    ensures { result ≡ some bad_outcome outcomes.now }
+    ensures { result ≡ list_any bad_outcome outcomes.now }
 {
-    let mut i: usize = 0;
-    while i < outcomes.len() {
-        if ABANDONED < outcomes[i] {
-            return true;
-        }
-        i += 1;
-    }
-    false
+    outcomes.iter().any(|outcome| ABANDONED < *outcome)
 }
 
-// Whether a report is refused: of a well-kept table, because one is open.
-fn is_shut(table: Table, at: Settings) -> bool
-    ensures { result ≡ is_shut table at }
+// Whether a report is refused: of a well-kept table, because one is open. It is tried on a copy. That a table has eighty places is in its
+// type; the proof of `round` takes it from here.
+fn is_shut(mut table: Table, at: Settings) -> bool
+    ensures shut { result ≡ is_shut table at }
+    ensures long { length table.places ≡ 80 }
 {
-    let tried = table::report(table, at);
-    let answer = tried.answer;
-    match answer {
-        HandOut::To(_) => false,
-        HandOut::Nothing => false,
-        HandOut::Refused(_) => true,
-    }
+    table::report(&mut table, at).is_err()
 }
 
-// Whether a report would answer Nothing.
-fn is_silent(table: Table, at: Settings) -> bool
+// Whether a report would answer that there is nobody. It is tried on a copy.
+fn is_silent(mut table: Table, at: Settings) -> bool
     ensures { result ≡ is_silent table at }
 {
-    let tried = table::report(table, at);
-    let answer = tried.answer;
-    match answer {
-        HandOut::To(_) => false,
-        HandOut::Nothing => true,
-        HandOut::Refused(_) => false,
+    match table::report(&mut table, at) {
+        Ok(handed) => handed.is_none(),
+        Err(_) => false,
     }
 }
 
-// One report, ended by its outcome.
-fn take_turn(table: Table, at: Settings, outcome: u8) -> Turn
-    ensures { result ≡ turn_of table at outcome }
+// One report, ended by its outcome; whom it was handed to.
+fn take_turn(table: &mut Table, at: Settings, outcome: u8) -> Option<u32>
+    ensures { turned result table.new ≡ turn_of table.old at outcome }
 {
-    let tried = table::report(table, at);
-    let answer = tried.answer;
-    let open = tried.table;
-    match answer {
-        HandOut::To(x) => {
-            let ended = table::complete(open, x.id, outcome);
-            let after = ended.table;
-            Turn {
-                made: true,
-                id: x.id,
-                table: after,
-            }
+    match table::report(table, at) {
+        Ok(Some(handed)) => {
+            // No refusal: who was handed out is open, and the outcomes were tested.
+            let _ = table::complete(table, handed.id, outcome);
+            Some(handed.id)
         }
-        HandOut::Nothing => nobody(open),
-        HandOut::Refused(_) => nobody(open),
+        Ok(None) => None,
+        Err(_) => None,
     }
 }
 
-fn nobody(table: Table) -> Turn
-    ensures { result ≡ no_turn table }
-{
-    Turn {
-        made: false,
-        id: 0,
-        table: table,
-    }
-}
-
-// Turn after turn: each outcome ends a report, whose id goes to the next place.
-fn serve(table: Table, at: Settings, outcomes: &[u8], ids: &mut [u32]) -> Served
+// Turn after turn: each outcome ends a report, whose id goes to the next place. How many were handed out.
+fn serve(table: &mut Table, at: Settings, outcomes: &[u8], ids: &mut [u32]) -> usize
     requires { length outcomes.now ≡ length ids.old }
-    ensures { (result, ids.new) ≡ served at outcomes.now 0 ids.old table }
+    ensures { (stood result table.new, ids.new) ≡ served at outcomes.now 0 ids.old table.old }
 {
-    let mut left = table;
-    let mut n: usize = 0;
-    while n < outcomes.len() {
-        let next = take_turn(left, at, outcomes[n]);
-        left = next.table;
-        if next.made {
-            ids[n] = next.id;
-            n += 1;
-        } else {
-            return Served {
-                handouts: n,
-                table: left,
-            };
+    for (n, outcome) in outcomes.iter().enumerate() {
+        match take_turn(table, at, *outcome) {
+            Some(id) => ids[n] = id,
+            None => return n,
         }
     }
-    Served {
-        handouts: n,
-        table: left,
-    }
+    outcomes.len()
 }

@@ -1,10 +1,9 @@
 -- What each call does where it is not refused, as equations for the floors above, which never open its definition.
 -- Assumes nothing.
+use Rattle.std.specs.Prelude.{Some, None}
 use mathlib.Core.Bool.{cond, true, false, not, ◌&&◌, ◌||◌}
 use mathlib.Core.Path.{◌≡◌, refl}
 use mathlib.Core.List.{List, [], ◌∷◌, ◌++◌}
-use mathlib.Core.Option.{none}
-use mathlib.Core.Option.{some as just}
 use Prim.Native.Nat.{◌-◌, ℕ}
 use lib.Dec.{eqb, ltb}
 use lib.ListN.{length}
@@ -148,12 +147,12 @@ module _ (s : State) where
   act_alive = refl
 
 -- nobody's next keep-alive, and that of some
-pub alive_none : keep_alive_in [] ≡ none
+pub alive_none : keep_alive_in [] ≡ None
 unfolding keep_alive_in
 alive_none = refl
 
 pub alive_some : (x : Subscription) (xs : List Subscription)
-    → keep_alive_in (x ∷ xs) ≡ just (record { ms = least_by (λ y. (due_of y Icd).ms) (due_of x Icd).ms xs })
+    → keep_alive_in (x ∷ xs) ≡ Some (record { ms = least_by (λ y. (due_of y Icd).ms) (due_of x Icd).ms xs })
 unfolding keep_alive_in
 alive_some x xs = refl
 

@@ -1,11 +1,10 @@
 -- The well-kept rule and the refusals as equations for the floors above, which never open their definitions: the clauses of the rule, and the
 -- first objection that holds.
 -- Assumes nothing.
+use Rattle.std.specs.Prelude.{Some, None}
 use mathlib.Core.Bool.{and-false, Bool, true, false, not, ◌&&◌, ◌||◌}
 use mathlib.Core.Path.{◌≡◌, refl}
 use mathlib.Core.List.{List, [], ◌∷◌, ◌++◌}
-use mathlib.Core.Option.{none}
-use mathlib.Core.Option.{some as just}
 use Prim.Native.Nat.{ℕ, ◌+◌}
 use lib.Dec.{eqb, leb, ltb}
 use lib.ListN.{length}
@@ -49,7 +48,7 @@ unfolding well_kept counted report_open
 well_kept_is s = refl
 
 -- an objection that holds is the refusal, and one that does not is passed over
-pub first_holds : {b : Bool} (why : Refusal) (rest : List Objection) → b ≡ true → first_of ((b, why) ∷ rest) ≡ just why
+pub first_holds : {b : Bool} (why : Refusal) (rest : List Objection) → b ≡ true → first_of ((b, why) ∷ rest) ≡ Some why
 unfolding first_of
 first_holds why rest e = rw (e, first_of)
 
@@ -57,7 +56,7 @@ pub first_passed : {b : Bool} (why : Refusal) (rest : List Objection) → b ≡ 
 unfolding first_of
 first_passed why rest e = rw (e, first_of)
 
-pub first_none : first_of [] ≡ none
+pub first_none : first_of [] ≡ None
 unfolding first_of
 first_none = refl
 

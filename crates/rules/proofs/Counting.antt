@@ -1,11 +1,10 @@
 -- What one call does to the number of counted places, and a history: `Lives` with the test that always holds, call by call. A hand-out and a
 -- completion that keeps move a subscription from one list to the other, and only what is dropped, removed or cleared goes.
 -- Assumes nothing.
+use Rattle.std.specs.Prelude.{Option, Some, None}
 use mathlib.Core.Path.{◌≡◌, refl, sym, ◌∙◌}
 use mathlib.Core.Bool.{Bool, true, false, cond, not, ◌&&◌, ◌||◌}
 use mathlib.Core.List.{List, [], ◌∷◌}
-use mathlib.Core.Option.{Option, none}
-use mathlib.Core.Option.{some as just}
 use Prim.Native.Nat.{ℕ, ◌+◌}
 use native.Mathlib.Omega.{arith}
 use borrow.Author.Tests.{not-false}
@@ -55,7 +54,7 @@ round_counts at (o ∷ os) t =
     rw (e, round_from, round_ends) (omega (arith, report_counts at s)))
     (λ e. rw (e, round_from, round_ends) (omega arith))
 
-act_counts : (op : Op) (s : State) → takes_state op ≡ true → first_of (objections op s) ≡ none
+act_counts : (op : Op) (s : State) → takes_state op ≡ true → first_of (objections op s) ≡ None
     → lives every (act op s).state + ends op s ≡ lives every s + (admits op s + resumes op s)
 unfolding act objections round_in noted_in purged_in admits resumes ends
 act_counts (call.new capacity) s t e = let z : ◌≡◌ {A = ℕ} 0 1 = cc in absurd (omega arith)
@@ -85,8 +84,8 @@ step_counts op s t = go (refusal op s) refl
   where
     go : (r : Option Refusal) → refusal op s ≡ r
         → lives every (step_by r op s).state + unless r (ends op s) ≡ lives every s + (unless r (admits op s) + unless r (resumes op s))
-    go none e = act_counts op s t (no_objection op s e)
-    go (just why) e = refl
+    go None e = act_counts op s t (no_objection op s e)
+    go (Some why) e = refl
 
 -- and a history adds up
 pub run_counts : (ops : List Op) (s : State) → some is_new ops ≡ false

@@ -1,10 +1,9 @@
 -- One small history for each call, with document 01's sentence above it. The answers, and where the sentence speaks of it the state, are computed.
 -- Assumes nothing.
+use Rattle.std.specs.Prelude.{Some, None}
 use mathlib.Core.Path.{◌≡◌, refl}
 use mathlib.Core.Bool.{Bool, true, false}
 use mathlib.Core.List.{[], ◌∷◌}
-use mathlib.Core.Option.{none}
-use mathlib.Core.Option.{some as just}
 use Prim.Native.Nat.{ℕ}
 use Rattle.time.specs.declared.KeepAlive.{KeepAlive}
 use Rattle.time.specs.declared.KeepAlive.TheVariants.{Default, Icd}
@@ -196,7 +195,7 @@ asked_so = refl
 abbrev waking : Diary
 waking =
     (call.next_instant 0 Default, call.instant (instant 18446744073709551615))
-    ∷ (call.next_keep_alive, call.keep_alive none)
+    ∷ (call.next_keep_alive, call.keep_alive None)
     ∷ (call.add request 0 (instant 9000), call.number 1)
     ∷ (call.complete 1 0, call.completed true false)
     ∷ (call.add request 0 (instant 1000), call.number 2)
@@ -204,7 +203,7 @@ waking =
     ∷ (call.next_instant 0 Default, call.instant (instant 31000))
     ∷ (call.any_reportable (instant 30999) 0 Default, call.yes_no false)
     ∷ (call.any_reportable (instant 31000) 0 Default, call.yes_no true)
-    ∷ (call.next_keep_alive, call.keep_alive (just (instant 58000)))
+    ∷ (call.next_keep_alive, call.keep_alive (Some (instant 58000)))
     ∷ []
 
 pub wakes_so : GoesBy waking (fresh 80)

@@ -2,10 +2,10 @@
 -- The next instant is a least over the stored ones and the last instant: `Least` compares. That a retry is an instant, which the code has by its
 -- widths, holds on every history, since it is one when it is made.
 -- Assumes nothing.
+use Rattle.std.specs.Prelude.{None}
 use mathlib.Core.Path.{◌≡◌, ap, ◌∙◌}
 use mathlib.Core.Bool.{true, false, not}
 use mathlib.Core.List.{List, []}
-use mathlib.Core.Option.{none}
 use mathlib.Core.Logic.{◌⊎◌, inl, inr}
 use Prim.Native.Nat.{ℕ, ◌≤◌, ◌<◌}
 use native.Mathlib.Omega.{arith}
@@ -69,7 +69,7 @@ retries_last = nobody_ever late_retry none_late
 -- On every history from a fresh table each retry is an instant.
 pub retries_fit_lem : (c : ℕ) (ops : List Op) → retries_fit (run ops (fresh c)) ≡ true
 retries_fit_lem c ops =
-    let none = retries_last ops (fresh c) (omega (arith, count_nil late_retry)) in
+    let None = retries_last ops (fresh c) (omega (arith, count_nil late_retry)) in
     ap not (none_count late_retry (run ops (fresh c)).stored (omega arith))
 
 -- So there the above holds with no more to ask.
@@ -88,7 +88,7 @@ unfolding act
 any_answers_next c ops now events kind able h =
     let s = run ops (fresh c) in
     let well = always_well_kept c ops able in
-    let free : (op : Op) → objections op s ≡ [] → refusal op s ≡ none = λ op e. refusal_kept op s well ∙ ap first_of e ∙ first_none in (
+    let free : (op : Op) → objections op s ≡ [] → refusal op s ≡ None = λ op e. refusal_kept op s well ∙ ap first_of e ∙ first_none in (
       ap (λ r. r.answer) (unrefused_acts (call.next_instant events kind) s (free (call.next_instant events kind) (instant_objects s events kind))),
       ap (λ r. r.answer) (unrefused_acts (call.any_reportable now events kind) s (free (call.any_reportable now events kind) (any_objects s now events kind)))
           ∙ ap call.yes_no (any_is_next_ever c ops now events kind h),

@@ -1,10 +1,10 @@
 -- The invariant of live subscriptions, over every call: a test that nobody meets before a call nobody meets after it, if whoever the call brings
 -- in, hands out or stores again does not. What holds of one subscription through its life is told by this and by nothing else.
 -- Assumes nothing.
+use Rattle.std.specs.Prelude.{None}
 use mathlib.Core.Path.{◌≡◌, refl, sym, ap, ◌∙◌}
 use mathlib.Core.Bool.{Bool, true, false, not, cond}
 use mathlib.Core.List.{List, [], ◌∷◌}
-use mathlib.Core.Option.{none}
 use Prim.Native.Nat.{ℕ}
 use native.Mathlib.Omega.{arith}
 use borrow.Author.Tests.{not-false}
@@ -78,7 +78,7 @@ module _ (p q : Subscription → Bool) (weaker : (x : Subscription) → q x ≡ 
       put true e met free = one_no (spares met free (and_right (not (cancelled (open_with id s) s)) (keeps (open_with id s) o) e))
       put false e met free = refl
 
-  spared_act : (op : Op) (s : State) → is_round op ≡ false → Spares p q op s → first_of (objections op s) ≡ none → lives p s ≡ 0
+  spared_act : (op : Op) (s : State) → is_round op ≡ false → Spares p q op s → first_of (objections op s) ≡ None → lives p s ≡ 0
       → lives q (act op s).state ≡ 0
   unfolding act objections noted_in purged_in
   spared_act (call.new capacity) s plain spares e h = omega (arith, count_nil q)
@@ -104,7 +104,7 @@ module _ (p q : Subscription → Bool) (weaker : (x : Subscription) → q x ≡ 
   spared_act (call.round at outcomes ids) s plain spares e h = absurd (let z : ◌≡◌ {A = ℕ} 0 1 = cc in omega arith)
 
   -- one call, refused or not
-  pub spared : (op : Op) (s : State) → is_round op ≡ false → (refusal op s ≡ none → Spares p q op s) → lives p s ≡ 0
+  pub spared : (op : Op) (s : State) → is_round op ≡ false → (refusal op s ≡ None → Spares p q op s) → lives p s ≡ 0
       → lives q (step op s).state ≡ 0
   spared op s plain spares h =
       step_either (λ r. lives q r.state ≡ 0) op s (λ e. spared_act op s plain (spares e) (no_objection op s e) h) (λ why e. fewer_live p q weaker s h)

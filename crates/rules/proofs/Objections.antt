@@ -1,9 +1,9 @@
 -- What the objections of a call tell: where it is not refused, none of them holds; and none of them has the number 7, which stands before them.
 -- Assumes nothing.
+use Rattle.std.specs.Prelude.{None}
 use mathlib.Core.Path.{◌≡◌, refl}
 use mathlib.Core.Bool.{Bool, true, false, not, ◌&&◌, ◌||◌}
 use mathlib.Core.List.{List, [], ◌∷◌}
-use mathlib.Core.Option.{none}
 use Prim.Native.Nat.{ℕ}
 use native.Mathlib.Omega.{arith}
 use lib.Dec.{eqb}
@@ -20,13 +20,13 @@ use Rattle.rules.specs.Histories.{numbered}
 use Rattle.rules.specs.Machine.{Objection, first_of, objections, takes_state, refusal, added, resumed_to, noted_in, ready, reported, completed_in, removed, cleared_in, purged_in, statistics_in, round_in, act}
 
 -- where nothing is refused, nothing was objected to
-pub unobjected : (b : Bool) (why : Refusal) (rest : List Objection) → first_of ((b, why) ∷ rest) ≡ none
-    → (b ≡ false) × (first_of rest ≡ none)
+pub unobjected : (b : Bool) (why : Refusal) (rest : List Objection) → first_of ((b, why) ∷ rest) ≡ None
+    → (b ≡ false) × (first_of rest ≡ None)
 unfolding first_of
 unobjected true why rest e = let z : ◌≡◌ {A = ℕ} 0 1 = cc in absurd (omega arith)
 unobjected false why rest e = (refl, e)
 
-pub no_objection : (op : Op) (s : State) → refusal op s ≡ none → first_of (objections op s) ≡ none
+pub no_objection : (op : Op) (s : State) → refusal op s ≡ None → first_of (objections op s) ≡ None
 unfolding refusal
 no_objection op s e = (unobjected (takes_state op && not (well_kept s)) NotWellKept (objections op s) e).1
 
@@ -64,7 +64,7 @@ other_numbers (call.has_subscription fabric peer) s = refl
 other_numbers (call.round at outcomes ids) s = refl
 
 -- a call that acts does not answer by a refusal
-pub act_unrefused : (op : Op) (s : State) → refusal_of (act op s).answer ≡ none
+pub act_unrefused : (op : Op) (s : State) → refusal_of (act op s).answer ≡ None
 unfolding act added resumed_to noted_in reported completed_in removed cleared_in purged_in statistics_in round_in
 act_unrefused (call.new capacity) s = refl
 act_unrefused (call.add request events now) s = refl

@@ -1,11 +1,10 @@
 -- A history goes as its plain calls do, with each round told as the reports and completions that it stands for.
 -- Assumes nothing.
+use Rattle.std.specs.Prelude.{Option, Some, None}
 use mathlib.Core.Path.{◌≡◌, refl, sym, ap, ◌∙◌}
 use mathlib.Core.Logic.{◌⊎◌, inl, inr}
 use mathlib.Core.Bool.{Bool, false}
 use mathlib.Core.List.{List, [], ◌∷◌, ◌++◌}
-use mathlib.Core.Option.{Option, none}
-use mathlib.Core.Option.{some as just}
 use Prim.Native.Nat.{ℕ}
 use native.Mathlib.Omega.{arith}
 use native.Mathlib.Nat.{add-zero}
@@ -82,8 +81,8 @@ unfolding calls_for some
 for_plain op s = go op (plain_or_round op)
   where
     called : (r : Option Refusal) (at : Settings) (os : List ℕ) → some is_round (round_calls r at os s) ≡ false
-    called none at os = calls_only is_round (λ _. refl) (λ _ _. refl) at os s
-    called (just why) at os = refl
+    called None at os = calls_only is_round (λ _. refl) (λ _ _. refl) at os s
+    called (Some why) at os = refl
 
     go : (op : Op) → (is_round op ≡ false) ⊎ ((at : Settings) × (outcomes : List ℕ) × (ids : List ℕ) × (op ≡ call.round at outcomes ids))
         → some is_round (calls_for op s) ≡ false
@@ -104,8 +103,8 @@ for_run op s = go op (plain_or_round op)
   where
     called : (at : Settings) (os ids : List ℕ) (r : Option Refusal) → refusal (call.round at os ids) s ≡ r
         → run (round_calls r at os s) s ≡ (step (call.round at os ids) s).state
-    called at os ids none e = sym (ap (λ o. o.state) (round_is_its_calls at os ids s e))
-    called at os ids (just why) e = sym (ap (λ o. o.state) (refused_alters_nothing (call.round at os ids) s why e))
+    called at os ids None e = sym (ap (λ o. o.state) (round_is_its_calls at os ids s e))
+    called at os ids (Some why) e = sym (ap (λ o. o.state) (refused_alters_nothing (call.round at os ids) s why e))
 
     go : (op : Op) → (is_round op ≡ false) ⊎ ((at : Settings) × (outcomes : List ℕ) × (ids : List ℕ) × (op ≡ call.round at outcomes ids))
         → run (calls_for op s) s ≡ (step op s).state
@@ -129,8 +128,8 @@ module _ (p : Op → Bool) (r : (at : Settings) → p (call.report at) ≡ false
   for_counts op s = go op (plain_or_round op)
     where
       called : (x : Option Refusal) (at : Settings) (os : List ℕ) → count p (round_calls x at os s) ≡ 0
-      called none at os = count_none p (calls_of at os s) (calls_only p r c at os s)
-      called (just why) at os = refl
+      called None at os = count_none p (calls_of at os s) (calls_only p r c at os s)
+      called (Some why) at os = refl
 
       go : (op : Op) → (is_round op ≡ false) ⊎ ((at : Settings) × (outcomes : List ℕ) × (ids : List ℕ) × (op ≡ call.round at outcomes ids))
           → count p (calls_for op s) ≡ one (p op)

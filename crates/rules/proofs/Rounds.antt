@@ -1,10 +1,10 @@
 -- A round is a sequence of reports and completions: its answer and its state are those of the calls in `calls_of`, one after another.
 -- `Turns` takes it turn by turn; none of the calls is refused, since the round was not.
 -- Assumes nothing.
+use Rattle.std.specs.Prelude.{None}
 use mathlib.Core.Path.{◌≡◌, ◌∙◌}
 use mathlib.Core.Bool.{true, not}
 use mathlib.Core.List.{List, [], ◌∷◌}
-use mathlib.Core.Option.{none}
 use Prim.Native.Nat.{ℕ, ◌+◌, ◌≤◌}
 use native.Mathlib.Omega.{arith}
 use native.Mathlib.Nat.{zero-add}
@@ -24,7 +24,7 @@ use Rattle.rules.proofs.Refusals.{unrefused_acts}
 use Rattle.rules.proofs.Sound.{kept_sound}
 use Rattle.rules.proofs.Turns.{round_stands}
 
-module _ (at : Settings) (outcomes ids : List ℕ) (s : State) (unrefused : refusal (call.round at outcomes ids) s ≡ none) where
+module _ (at : Settings) (outcomes ids : List ℕ) (s : State) (unrefused : refusal (call.round at outcomes ids) s ≡ None) where
   kept : well_kept s ≡ true
   unfolding refusal
   kept = not-false _ (unobjected (not (well_kept s)) NotWellKept _ unrefused).0

@@ -1,6 +1,7 @@
 -- The rest of what keeps the state sound: removal, the log, the round; and so every call, acting or refused.
 -- A round keeps it turn by turn, since each turn leaves the same ones open.
 -- Assumes nothing.
+use Rattle.std.specs.Prelude.{None}
 use mathlib.Core.Path.{◌≡◌, refl}
 use mathlib.Core.Bool.{Bool, true, false, cond, ◌&&◌, ◌||◌}
 use mathlib.Core.List.{List, [], ◌∷◌}
@@ -22,7 +23,6 @@ use Rattle.rules.specs.Calls.{Settings, Op}
 use Rattle.rules.specs.Machine.{next_up, first_of, objections, round_in, act, step, noted_in, ready, reported, completed_in, cancels, removed, cleared_in, least_seen, purged_in, Turn, turned, round_from}
 use Rattle.rules.proofs.Lives.{every, removed_lives, cleared_lives, turn_found, turn_opens}
 use Rattle.rules.proofs.Sound.{Sound}
-use mathlib.Core.Option.{none}
 use borrow.Author.Tests.{not-false}
 use Rattle.changes.proofs.Answering.{fresh_kept}
 use Rattle.rules.specs.Calls as call
@@ -138,7 +138,7 @@ fresh_sound c h =
     }
 
 -- what a call does where nothing is objected to
-act_sound : (op : Op) (s : State) → first_of (objections op s) ≡ none → Sound s → Sound (act op s).state
+act_sound : (op : Op) (s : State) → first_of (objections op s) ≡ None → Sound s → Sound (act op s).state
 unfolding act objections round_in
 act_sound (call.new capacity) s e h = fresh_sound capacity (not-false _ (unobjected _ _ _ e).0)
 act_sound (call.add request events now) s e h =

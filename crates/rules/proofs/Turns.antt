@@ -1,9 +1,9 @@
 -- A turn of a round is a report and a completion, neither refused; so a round goes as the calls that it stands for.
 -- Assumes nothing.
+use Rattle.std.specs.Prelude.{None}
 use mathlib.Core.Path.{◌≡◌, refl, sym, ◌∙◌}
 use mathlib.Core.Bool.{true, false, and-false}
 use mathlib.Core.List.{List, [], ◌∷◌}
-use mathlib.Core.Option.{none}
 use Prim.Native.Nat.{ℕ, suc, ◌+◌}
 use native.Mathlib.Omega.{arith}
 use native.Mathlib.Nat.{add-zero}
@@ -25,7 +25,7 @@ use Rattle.rules.proofs.Keeping.{report_sound}
 use Rattle.rules.proofs.Steps.{turn_sound, turn_shut}
 
 -- a well-kept state refuses only what is objected to
-unrefused : (op : Op) (s : State) → well_kept s ≡ true → first_of (objections op s) ≡ none → refusal op s ≡ none
+unrefused : (op : Op) (s : State) → well_kept s ≡ true → first_of (objections op s) ≡ None → refusal op s ≡ None
 unfolding refusal first_of
 unrefused op s h e = rw (h, and-false (takes_state op), first_of) e
 

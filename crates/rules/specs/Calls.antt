@@ -1,7 +1,6 @@
 -- The calls of document 01's table, with their arguments, and what they answer.
 -- Assumes nothing.
-use Rattle.std.specs.Prelude.{Bool, List, ℕ}
-use Rattle.std.proofs.Math.Option.{Option}
+use Rattle.std.specs.Prelude.{Bool, List, ℕ, Option}
 use Rattle.refusal.specs.declared.Refusal.{Refusal}
 use Rattle.instants.specs.declared.Instant.{Instant}
 use Rattle.time.specs.declared.KeepAlive.{KeepAlive}

@@ -1,8 +1,7 @@
 -- "Counted places = stored + open, and also equal admissions and resumptions less endings in the history.": how many each call admits, resumes
 -- and ends, by what document 01 says of it, and how many a history does.
 -- Assumes nothing.
-use Rattle.std.specs.Prelude.{Bool, true, false, not, ◌||◌, List, [], ◌∷◌, ℕ, ◌+◌, length}
-use Rattle.std.proofs.Math.Option.{Option, none, some as just}
+use Rattle.std.specs.Prelude.{Bool, true, false, not, ◌||◌, List, [], ◌∷◌, ℕ, ◌+◌, length, Option, Some, None}
 use Rattle.refusal.specs.declared.Refusal.{Refusal}
 use Rattle.lists.specs.Search.{one, some, count}
 use Rattle.subscription.specs.Life.{keeps}
@@ -93,8 +92,8 @@ ends (call.round at outcomes ids) s = round_ends at outcomes s
 
 -- a refused call "alters nothing"
 abbrev pub unless : Option Refusal → ℕ → ℕ
-unless none n = n
-unless (just why) n = 0
+unless None n = n
+unless (Some why) n = 0
 
 -- how many all calls of the history make together
 unfoldable pub total : (Op → State → ℕ) → List Op → State → ℕ

@@ -1,7 +1,6 @@
 -- The words in which the machine's theorems speak of refusals and histories.
 -- Assumes nothing.
-use Rattle.std.specs.Prelude.{◌≡◌, Bool, false, not, List, map, ℕ, eqb, ltb}
-use Rattle.std.proofs.Math.Option.{Option, none, some as just}
+use Rattle.std.specs.Prelude.{◌≡◌, Bool, false, not, List, map, ℕ, eqb, ltb, Option, Some, None}
 use Rattle.refusal.specs.declared.Refusal.{Refusal}
 use Rattle.refusal.specs.Numbers.{number_of}
 use Rattle.lists.specs.Search.{some}
@@ -14,8 +13,8 @@ use Rattle.rules.specs.Machine.{takes_state, run, answers}
 
 -- the call is refused with this number
 abbrev pub numbered : ℕ → Option Refusal → Bool
-numbered n none = false
-numbered n (just why) = eqb (number_of why) n
+numbered n None = false
+numbered n (Some why) = eqb (number_of why) n
 
 -- the answer is the refusal with this number
 abbrev pub refused_by : ℕ → Answer → Bool

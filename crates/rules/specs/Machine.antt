@@ -1,7 +1,6 @@
 -- Document 01's table as a machine: what each call refuses, in 01's order, and what it does where it does not refuse.
 -- Assumes nothing.
-use Rattle.std.specs.Prelude.{Bool, true, false, cond, not, ◌&&◌, ◌||◌, List, [], ◌∷◌, ◌++◌, ℕ, ◌+◌, ◌-◌, ◌%◌, ◌^◌, max, eqb, leb, ltb, length, set}
-use Rattle.std.proofs.Math.Option.{Option, none, some as just}
+use Rattle.std.specs.Prelude.{Bool, true, false, cond, not, ◌&&◌, ◌||◌, List, [], ◌∷◌, ◌++◌, ℕ, ◌+◌, ◌-◌, ◌%◌, ◌^◌, max, eqb, leb, ltb, length, set, Option, Some, None}
 use Rattle.lists.specs.Search.{some, count, first_by, least_by}
 use Rattle.lists.specs.Removal.{sweep, take_out, take_out_newest}
 use Rattle.refusal.specs.declared.Refusal.{Refusal}
@@ -30,8 +29,8 @@ Objection = Bool × Refusal
 
 -- "Checked in this order."
 unfoldable pub first_of : List Objection → Option Refusal
-first_of [] = none
-first_of ((holds, why) ∷ rest) = elim holds [ true ↦ just why | false ↦ first_of rest ]
+first_of [] = None
+first_of ((holds, why) ∷ rest) = elim holds [ true ↦ Some why | false ↦ first_of rest ]
 
 -- "counted places reach capacity"
 abbrev pub full : State → Bool
@@ -237,8 +236,8 @@ any_reportable_in now events kind s = some (ready (record { now = now; events = 
 
 -- "next keep-alive (the least `Icd` due instant of the stored, or none)"
 unfoldable pub keep_alive_in : List Subscription → Option Instant
-keep_alive_in [] = none
-keep_alive_in (x ∷ xs) = just (record { ms = least_by (λ y. (due_of y Icd).ms) (due_of x Icd).ms xs })
+keep_alive_in [] = None
+keep_alive_in (x ∷ xs) = Some (record { ms = least_by (λ y. (due_of y Icd).ms) (due_of x Icd).ms xs })
 
 -- "statistics (counted places; stored of a fabric, 0 if no fabric is asked; next id − 1, at least 0)"
 unfoldable pub statistics_in : ℕ → State → Answer
@@ -302,8 +301,8 @@ act (call.round at outcomes ids) s = round_in at outcomes ids s
 
 -- "either acts or gives a numbered refusal .. that alters nothing"
 abbrev pub step_by : Option Refusal → Op → State → Outcome
-step_by none op s = act op s
-step_by (just why) op s = outcome (call.refused why) s
+step_by None op s = act op s
+step_by (Some why) op s = outcome (call.refused why) s
 
 unfoldable pub step : Op → State → Outcome
 step op s = step_by (refusal op s) op s

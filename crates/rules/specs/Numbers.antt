@@ -1,7 +1,6 @@
 -- Document 01's number and values of each answer: 0 and what is told where the call acted, the refusal's number and no value where it was refused.
 -- Assumes nothing.
-use Rattle.std.specs.Prelude.{List, [], ◌∷◌, ℕ}
-use Rattle.std.proofs.Math.Option.{Option, none, some as just}
+use Rattle.std.specs.Prelude.{List, [], ◌∷◌, ℕ, Option, Some, None}
 use Rattle.lists.specs.Search.{one}
 use Rattle.refusal.specs.declared.Refusal.{Refusal}
 use Rattle.refusal.specs.Numbers.{number_of}
@@ -10,23 +9,23 @@ use Rattle.rules.specs.Calls.{Answer}
 
 -- the number of a refusal, and 0 for none
 abbrev pub number_in : Option Refusal → ℕ
-number_in none = 0
-number_in (just why) = number_of why
+number_in None = 0
+number_in (Some why) = number_of why
 
 -- why the call was refused, if it was
 abbrev pub refusal_of : Answer → Option Refusal
-refusal_of (call.refused why) = just why
-refusal_of call.done = none
-refusal_of (call.number k) = none
-refusal_of (call.heard identity wakes) = none
-refusal_of call.nothing = none
-refusal_of (call.handed id rx) = none
-refusal_of (call.completed stays failed) = none
-refusal_of (call.yes_no b) = none
-refusal_of (call.instant i) = none
-refusal_of (call.keep_alive i) = none
-refusal_of (call.stats places of_fabric established) = none
-refusal_of (call.rounded hand_outs silent ids) = none
+refusal_of (call.refused why) = Some why
+refusal_of call.done = None
+refusal_of (call.number k) = None
+refusal_of (call.heard identity wakes) = None
+refusal_of call.nothing = None
+refusal_of (call.handed id rx) = None
+refusal_of (call.completed stays failed) = None
+refusal_of (call.yes_no b) = None
+refusal_of (call.instant i) = None
+refusal_of (call.keep_alive i) = None
+refusal_of (call.stats places of_fabric established) = None
+refusal_of (call.rounded hand_outs silent ids) = None
 
 -- the answer's number
 abbrev pub code_of : Answer → ℕ
@@ -43,7 +42,7 @@ values_of (call.handed id rx) = id ∷ rx ∷ []
 values_of (call.completed stays failed) = one stays ∷ one failed ∷ []
 values_of (call.yes_no b) = one b ∷ []
 values_of (call.instant i) = i.ms ∷ []
-values_of (call.keep_alive none) = []
-values_of (call.keep_alive (just i)) = i.ms ∷ []
+values_of (call.keep_alive None) = []
+values_of (call.keep_alive (Some i)) = i.ms ∷ []
 values_of (call.stats places of_fabric established) = places ∷ of_fabric ∷ established ∷ []
 values_of (call.rounded hand_outs silent ids) = hand_outs ∷ one silent ∷ ids

@@ -1,7 +1,6 @@
 -- A round as the calls that it stands for, and a history with its rounds told so: "reports and completes at one instant, taking outcomes in turn .. until Nothing or the outcomes end".
 -- Assumes nothing.
-use Rattle.std.specs.Prelude.{Bool, true, false, List, [], ◌∷◌, ◌++◌, ℕ}
-use Rattle.std.proofs.Math.Option.{Option, none, some as just}
+use Rattle.std.specs.Prelude.{Bool, true, false, List, [], ◌∷◌, ◌++◌, ℕ, Option, Some, None}
 use Rattle.refusal.specs.declared.Refusal.{Refusal}
 use Rattle.lists.specs.Search.{some}
 use Rattle.rules.specs.States.{State}
@@ -62,8 +61,8 @@ is_round op = by_round op (λ at outcomes ids. true) false
 
 -- a round that is refused is no call at all
 abbrev pub round_calls : Option Refusal → Settings → List ℕ → State → List Op
-round_calls none at outcomes s = calls_of at outcomes s
-round_calls (just why) at outcomes s = []
+round_calls None at outcomes s = calls_of at outcomes s
+round_calls (Some why) at outcomes s = []
 
 -- the calls that a call stands for
 unfoldable pub calls_for : Op → State → List Op

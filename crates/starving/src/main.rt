@@ -4,68 +4,66 @@
 #![tactic(auto)]
 
 use instants::Instant;
-use places::{HandOut, Table};
+use places::Table;
+use refusal::Refusal;
 use std::io;
 use subscription::{Request, SENT, Settings};
 use time::KeepAlive;
 
+const REQUEST: Request = Request {
+    peer: 7,
+    shortest: 0,
+    longest: 60,
+    rx: 0,
+    fabric: 1,
+};
+
 fn main(rt: HostRuntime) -> io::Result<()> {
-    let mut t = stored(stored(stored(table::new(80).table, 1), 2), 3);
+    let Ok(mut t) = three_stored() else {
+        return rt.write_all(b"refused\n");
+    };
     for i in 2..10u64 {
-        t = turn(&rt, t, i * 1000)?;
+        print!(&rt; "{}", i * 1000)?;
+        rt.write_all(who(turn(&mut t, Instant::at(i * 1000))))?;
     }
     Ok(())
 }
 
-// One more is admitted, and its priming is sent.
-fn stored(t: Table, id: u32) -> Table {
-    let request = Request {
-        peer: 7,
-        shortest: 0,
-        longest: 60,
-        rx: 0,
-        fabric: 1,
-    };
-    let open = table::add(t, request, 0, Instant::at(1000)).table;
-    table::complete(open, id, SENT).table
+// Three are admitted, and their primings are sent.
+fn three_stored() -> Result<Table, Refusal> {
+    let (made, mut t) = table::new(80);
+    made?;
+    for _ in 0..3u8 {
+        let id = table::add(&mut t, REQUEST, 0, Instant::at(1000))?;
+        table::complete(&mut t, id, SENT)?;
+    }
+    Ok(t)
 }
 
 // The fridge warms up, and whoever comes first is told.
-fn turn(rt: &impl Print, t: Table, ms: u64) -> io::Result<Table> {
+fn turn(t: &mut Table, now: Instant) -> Result<Option<u32>, Refusal> {
+    table::note(t, 3, 6, 0)?;
     let at = Settings {
-        now: Instant::at(ms),
+        now,
         events: 0,
         kind: KeepAlive::Default,
         all: false,
     };
-    let reported = table::report(table::note(t, 3, 6, 0).table, at);
-    print!(rt; "{ms}")?;
-    let answer = reported.answer;
-    match answer {
-        HandOut::To(x) => {
-            name(rt, x.id)?;
-            Ok(table::complete(reported.table, x.id, SENT).table)
-        }
-        HandOut::Nothing => {
-            word(rt, b" nothing\n")?;
-            Ok(reported.table)
-        }
-        HandOut::Refused(_) => {
-            word(rt, b" refused\n")?;
-            Ok(reported.table)
-        }
-    }
+    let Some(told) = table::report(t, at)? else {
+        return Ok(None);
+    };
+    table::complete(t, told.id, SENT)?;
+    Ok(Some(told.id))
 }
 
-fn name(rt: &impl Print, id: u32) -> io::Result<()> {
-    match id {
-        1 => word(rt, b" A\n"),
-        2 => word(rt, b" B\n"),
-        3 => word(rt, b" C\n"),
-        _ => word(rt, b" somebody else\n"),
+// Who was told.
+fn who(told: Result<Option<u32>, Refusal>) -> &'static [u8] {
+    match told {
+        Ok(Some(1)) => b" A\n",
+        Ok(Some(2)) => b" B\n",
+        Ok(Some(3)) => b" C\n",
+        Ok(Some(_)) => b" somebody else\n",
+        Ok(None) => b" nothing\n",
+        Err(_) => b" refused\n",
     }
-}
-
-fn word(rt: &impl Print, text: &[u8]) -> io::Result<()> {
-    rt.write_all(text)
 }

@@ -1,23 +1,15 @@
 -- The well-kept rule in the array's terms: with the counts within the capacity, what is left to test is the log, the ids, the fabrics, the open
 -- reports and the reason.
 -- Assumes nothing.
-use Rattle.std.proofs.Common.{◌≡◌, ◌+◌, ◌-◌, ◌≤◌, Bool, true, false, not, ◌&&◌, ◌||◌, eqb, ltb, leb, ◌++◌, length, ◌∙◌, arith, length-drop, length-take-le, leb-true}
+use Rattle.std.proofs.Common.{◌≡◌, ◌+◌, ◌-◌, ◌≤◌, true, false, ◌&&◌, leb, length, ◌∙◌, arith, length-drop, length-take-le, leb-true}
 use Rattle.places.specs.declared.Table.{Table}
-use Rattle.lists.specs.Search.{some, count, distinct}
 use Rattle.changes.specs.Logs.{kept as log_kept}
-use Rattle.rules.specs.States.{is_report, capacity_fits, fabric_zero}
+use Rattle.rules.specs.States.{is_report, capacity_fits}
 use Rattle.places.specs.Views.{stored_of, opens_of, view, kept}
+use Rattle.table.specs.Scans.{sound}
 use Rattle.lists.proofs.Bools.{split, clash, and_both}
 use Rattle.lists.proofs.Searches.{some_counted}
 use Rattle.rules.proofs.Clauses.{well_kept_is}
-
--- what is left to test of a table whose counts are within its capacity
-abbrev pub Inside : Table → Bool
-Inside t =
-    log_kept t.log
-    && (distinct (λ x. x.id) (stored_of t ++ opens_of t)
-    && (not (some fabric_zero (stored_of t ++ opens_of t))
-    && (leb (count is_report (opens_of t)) 1 && (eqb t.cancel 0 || ltb 0 (count is_report (opens_of t))))))
 
 module _ (t : Table) where
   -- counts that are not within it
@@ -47,7 +39,7 @@ module _ (t : Table) where
         let c = counts_fit in
         omega (arith, length-take-le t.stored t.places (omega arith), length-drop (80 - t.opens) t.places)
 
-    pub within_kept : kept t ≡ Inside t
+    pub within_kept : kept t ≡ (log_kept t.log && sound (stored_of t) (opens_of t) t.cancel)
     unfolding kept
     within_kept =
         rw (fits, kept)

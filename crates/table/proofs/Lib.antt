@@ -1,4 +1,5 @@
 pub mod Steps
 pub mod Inside
 pub mod Sweeping
-pub mod Verdicts
+pub mod Standing
+pub mod Asked

@@ -1,62 +1,78 @@
--- One turn of the loops that take stored ones out of the array, and what they come to.
+-- What the sweep of the stored places comes to, with blanks behind what it leaves.
 -- Assumes nothing.
-use Rattle.std.proofs.Common.{◌≡◌, ℕ, suc, ◌+◌, ◌-◌, ◌<◌, ◌≤◌, Bool, true, false, List, ◌++◌, length, get_or, drop, set, replicate, sym, ap, ◌∙◌, append_assoc, add-one, arith, drop-cons}
-use lib.ListN.{length-replicate, replicate-append-replicate}
-use lib.Seq.{set_at}
+use Rattle.std.proofs.Common.{◌≡◌, ℕ, suc, ◌+◌, ◌-◌, ◌≤◌, Bool, List, ◌++◌, length, get_or, drop, set, replicate, sym, ap, ◌∙◌, arith}
+use lib.Seq.{drop-set-lt, get_or-set_same, length-take-le, drop-drop, drop_at, take-append-le}
+use lib.ListN.{length-set, take, take-append-drop}
+use native.Mathlib.Nat.{le_refl}
+use borrow.Rule.Slice.PartMut.{put_mid, post_of, Post-is}
+use Rattle.std.proofs.Common.{refl, ◌∷◌, zero}
+use Rattle.lists.specs.Removal.{sweep}
+use Rattle.lists.proofs.Bools.{split}
+use Rattle.lists.proofs.Arrays.{scan_start}
+use Rattle.lists.proofs.Parts.{drop_next}
+use Rattle.places.proofs.RemovalAgrees.{swept_scan, swept_rest}
 use Rattle.subscription.specs.declared.Subscription.{Subscription}
-use Rattle.places.specs.declared.Table.{Table}
 use Rattle.subscription.specs.Life.{blank}
-use Rattle.places.specs.Moves.{with_places, swapped, swept_from, swept_out, emptied}
+use Rattle.places.specs.Moves.{swapped, swept_from}
 
--- a table that differs from another in its places alone
-abbrev pub SameBut : Table → Table → Type 0
-SameBut t₀ t = t ≡ with_places t₀ t.places t₀.stored t₀.opens
-
--- stays so through another store
-pub same_on : (t₀ t : Table) (places : List Subscription) → SameBut t₀ t
-    → with_places t places t.stored t.opens ≡ with_places t₀ places t₀.stored t₀.opens
-same_on t₀ t places e = ap (λ u. with_places u places u.stored u.opens) e
-
-module _ (p : Subscription → Bool) (i n : ℕ) (places : List Subscription) where
-  pub sweep_out : i < n → p (get_or places i blank) ≡ true
-      → swept_from p (n - i) i n places ≡ swept_from p (n - 1 - i) i (n - 1) (swapped places n i)
+module _ (p : Subscription → Bool) where
+  swept_fewer : (f i n : ℕ) (l : List Subscription) → n - i ≡ f → i ≤ n → (swept_from p f i n l).count ≤ n
   unfolding swept_from
-  sweep_out h e = let f : n - i ≡ suc (n - 1 - i) = omega arith in rw (f, e, swept_from)
+  swept_fewer zero i n l e h = le_refl n
+  swept_fewer (suc f) i n l e h =
+      split (p (get_or l i blank))
+      (λ t. rw (t, swept_from) (omega (arith, swept_fewer f i (n - 1) (swapped l n i) (omega arith) (omega arith))))
+      (λ t. rw (t, swept_from) (swept_fewer f (i + 1) n l (omega arith) (omega arith)))
 
-  pub sweep_kept : i < n → p (get_or places i blank) ≡ false → swept_from p (n - i) i n places ≡ swept_from p (n - (i + 1)) (i + 1) n places
+  swept_size : (f i n : ℕ) (l : List Subscription) → length (swept_from p f i n l).places ≡ length l
   unfolding swept_from
-  sweep_kept h e = let f : n - i ≡ suc (n - (i + 1)) = omega arith in rw (f, e, swept_from)
+  swept_size zero i n l = refl
+  swept_size (suc f) i n l =
+      split (p (get_or l i blank))
+      (λ t. rw (t, swept_from) (swept_size f i (n - 1) (swapped l n i) ∙ simp length-set))
+      (λ t. rw (t, swept_from) (swept_size f (i + 1) n l))
 
-  sweep_done : n ≤ i → swept_from p (n - i) i n places ≡ record { places = places; count = n }
+  -- the places that were vacated are blank
+  swept_blank : (f i n k : ℕ) (l : List Subscription) → n - i ≡ f → i ≤ n → n ≤ k → k ≤ length l
+      → take (k - n) (drop n l) ≡ replicate (k - n) blank
+      → take (k - (swept_from p f i n l).count) (drop (swept_from p f i n l).count (swept_from p f i n l).places)
+      ≡ replicate (k - (swept_from p f i n l).count) blank
   unfolding swept_from
-  sweep_done h = let f : n - i ≡ 0 = omega arith in rw f
+  swept_blank zero i n k l e h g room b = b
+  swept_blank (suc f) i n k l e h g room b =
+      let m = set l i (get_or l (n - 1) blank) in
+      let size : length m ≡ length l = length-set l i (get_or l (n - 1) blank) in
+      let next : n - 1 + 1 ≡ n = omega arith in
+      let here : drop (n - 1) (swapped l n i) ≡ blank ∷ drop n l =
+      drop_next (swapped l n i) (n - 1) blank (simp length-set (omega arith))
+      ∙ rw (get_or-set_same m (n - 1) blank blank (omega arith), next)
+      (ap (λ l. blank ∷ l) (drop-set-lt n m (n - 1) blank (omega arith) ∙ drop-set-lt n l i (get_or l (n - 1) blank) (omega arith))) in
+      let more : k - (n - 1) ≡ suc (k - n) = omega arith in
+      split (p (get_or l i blank))
+      (λ t. rw (t, swept_from)
+      (swept_blank f i (n - 1) k (swapped l n i) (omega arith) (omega arith) (omega arith) (simp length-set room)
+      (rw (more, here) (ap (λ l. blank ∷ l) b))))
+      (λ t. rw (t, swept_from) (swept_blank f (i + 1) n k l (omega arith) (omega arith) g room b))
 
--- with nothing left to look at, the places and the count are what the sweep leaves
-pub sweep_end : (p : Subscription → Bool) (t₀ t : Table) (i n : ℕ) → SameBut t₀ t
-    → swept_from p t₀.stored 0 t₀.stored t₀.places ≡ swept_from p (n - i) i n t.places → n ≤ i
-    → with_places t t.places n t.opens ≡ swept_out p t₀
-unfolding swept_out
-sweep_end p t₀ t i n e f h =
-    ap (λ u. with_places u t.places n u.opens) e
-    ∙ sym (ap (λ s. with_places t₀ s.places s.count t₀.opens) (f ∙ sweep_done p i n t.places h))
-
-pub sweep_start : (p : Subscription → Bool) (t : Table)
-    → swept_from p t.stored 0 t.stored t.places ≡ swept_from p (t.stored - 0) 0 t.stored t.places
-sweep_start p t = let f : t.stored - 0 ≡ t.stored = omega arith in rw f
-
--- blanks up to i, and one more
-pub blank_more : (l : List Subscription) (i : ℕ) → i < length l
-    → set (replicate i blank ++ drop i l) i blank ≡ replicate (i + 1) blank ++ drop (i + 1) l
-blank_more l i h =
-    rw (
-      drop-cons l i blank h,
-      set_at (replicate i blank) (get_or l i blank) (drop (suc i) l) blank i (length-replicate i blank),
-      ← replicate-append-replicate i 1 blank,
-      append_assoc,
-      add-one,
-    )
-
-pub empty_end : (t₀ t : Table) (i : ℕ) → SameBut t₀ t → t.places ≡ replicate i blank ++ drop i t₀.places → i ≡ t₀.stored
-    → with_places t t.places 0 t.opens ≡ emptied t₀
-unfolding emptied
-empty_end t₀ t i e f g = ap (λ u. with_places u t.places 0 u.opens) e ∙ rw (f, g)
+  pub swept_whole : (l ys zs : List Subscription) (n m : ℕ) → n ≤ length l → m ≤ length ys → length ys ≡ n → take m ys ≡ sweep p (take n l)
+      → zs ≡ replicate (n - m) blank
+      → (put_mid m (n - m) (ys ++ drop n l) zs ≡ (swept_from p n 0 n l).places) × (m ≡ (swept_from p n 0 n l).count)
+  swept_whole l ys zs n m room fits is kept blanks =
+      let r = swept_from p n 0 n l in
+      let scan : take r.count r.places ≡ sweep p (take n l) = swept_scan p n 0 n l (omega arith) (omega arith) room ∙ sym (scan_start p n l room) in
+      let fewer = swept_fewer n 0 n l (omega arith) (omega arith) in
+      let size = swept_size n 0 n l in
+      let counts : m ≡ r.count = omega (arith, length-take-le m ys fits, length-take-le r.count r.places (omega arith), ap length (kept ∙ sym scan)) in
+      let whole : r.count + (n - r.count) ≡ n = omega arith in
+      let rest : drop (n - r.count) (drop r.count r.places) ≡ drop n l =
+      drop-drop (n - r.count) r.count r.places ∙ rw whole (swept_rest p n 0 n n l (omega arith) (le_refl n)) in
+      let end : post_of m (n - m) (ys ++ drop n l) ≡ drop n l =
+      Post-is m n (ys ++ drop n l) (omega arith) ∙ drop_at ys (drop n l) n is in
+      let blank_end = swept_blank n 0 n n l (omega arith) (omega arith) (le_refl n) room (let none : n - n ≡ 0 = omega arith in rw none) in (
+        ap (λ e. e ++ (zs ++ post_of m (n - m) (ys ++ drop n l))) (take-append-le m ys (drop n l) fits ∙ kept ∙ sym scan)
+            ∙ ap (λ e. take r.count r.places ++ (zs ++ e)) (end ∙ sym rest)
+            ∙ ap (λ e. take r.count r.places ++ (e ++ drop (n - r.count) (drop r.count r.places))) (blanks ∙ ap (λ k. replicate (n - k) blank) counts ∙ sym blank_end)
+            ∙ ap (λ e. take r.count r.places ++ e) (take-append-drop (n - r.count) (drop r.count r.places))
+            ∙ take-append-drop r.count r.places,
+        counts,
+      )

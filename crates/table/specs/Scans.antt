@@ -1,46 +1,34 @@
--- What the code's own parts promise: what a scan looks for and measures, what the pass over the live ones finds, and a verdict.
+-- What the code's own parts promise: what is asked of the live ones, and what stands in the way of a call.
 -- Assumes nothing.
-use Rattle.std.specs.Prelude.{◌≡◌, ℕ, Bool, List, ◌++◌, map, length, take}
-use Rattle.std.proofs.Math.Option.{Option, none, some as just}
+use Rattle.std.specs.Prelude.{◌≡◌, ℕ, Bool, not, ◌&&◌, ◌||◌, eqb, ltb, leb, List, ◌++◌, map, length, take, cond, Result, Ok, Err, ⊤, Option, Some, None}
 use Rattle.refusal.specs.declared.Refusal.{Refusal}
+use Rattle.refusal.specs.declared.Refusal.TheVariants.{NotWellKept}
+use Rattle.places.specs.declared.Table.{Table}
+use Rattle.places.specs.Views.{kept}
 use Rattle.subscription.specs.declared.Subscription.{Subscription}
-use Rattle.table.specs.declared.keeping.Pass.{Pass}
-use Rattle.table.specs.declared.admission.Verdict.{Verdict}
-use Rattle.table.specs.declared.admission.Verdict.TheVariants as verdict
-use Rattle.table.specs.declared.scans.Test.{Test}
-use Rattle.table.specs.declared.scans.Test.TheVariants.{Id, Report, Priming, Ready, Chosen, Struck, Fabric, Served}
-use Rattle.table.specs.declared.scans.Measure.{Measure}
-use Rattle.table.specs.declared.scans.Measure.TheVariants.{Next, Due, Seen}
-use Rattle.lists.specs.Search.{some, count}
-use Rattle.choices.specs.Choices.{chosen}
-use Rattle.rules.specs.States.{is_report, is_priming, has_id, fabric_zero}
-use Rattle.places.specs.Tests.{ready_by, of_fabric, served, struck, next_by, icd_due, seen_of}
+use Rattle.table.specs.declared.keeping.Live.{Live}
+use Rattle.lists.specs.Search.{some, count, distinct}
+use Rattle.rules.specs.States.{is_report, fabric_zero}
 
--- what a scan looks for
-abbrev pub passes : Test → Subscription → Bool
-passes (Id id) = has_id id
-passes Report = is_report
-passes Priming = is_priming
-passes (Ready at newest) = ready_by at newest
-passes (Chosen choice) = chosen choice
-passes (Struck choice) = struck choice
-passes (Fabric fabric) = of_fabric fabric
-passes (Served fabric peer) = served fabric peer
+-- what is left to test of a table whose counts are within its capacity, and whose log is well kept
+abbrev pub sound : List Subscription → List Subscription → ℕ → Bool
+sound stored opens cancel =
+    distinct (λ x. x.id) (stored ++ opens)
+    && (not (some fabric_zero (stored ++ opens))
+    && (leb (count is_report opens) 1 && (eqb cancel 0 || ltb 0 (count is_report opens))))
 
--- what a scan takes the least of
-abbrev pub measured : Measure → Subscription → ℕ
-measured (Next at newest) = next_by at newest
-measured Due = icd_due
-measured Seen = seen_of
-
--- what one pass over the live ones finds
-pub record Lived (stored opens : List Subscription) (r : Pass) : Type 0 where
+-- what is asked of the live ones, the stored ones first
+pub record Lived (stored opens : List Subscription) (r : Live) : Type 0 where
   pub long : length r.ids ≡ 80
   pub ids_are : take (length (stored ++ opens)) r.ids ≡ map (λ x. x.id) (stored ++ opens)
   pub orphan_is : r.orphan ≡ some fabric_zero (stored ++ opens)
   pub reports_are : r.reports ≡ count is_report opens
 
--- a refusal, if there is one
-abbrev pub as_verdict : Option Refusal → Verdict
-as_verdict none = verdict.Clear
-as_verdict (just why) = verdict.Refuse why
+-- nothing, or the refusal if there is one
+abbrev pub verdict_of : Option Refusal → Result ⊤ Refusal
+verdict_of None = Ok tt
+verdict_of (Some why) = Err why
+
+-- nothing, where the table is well kept
+unfoldable pub well_kept : Table → Result ⊤ Refusal
+well_kept t = cond (kept t) (Ok tt) (Err NotWellKept)

@@ -1,8 +1,6 @@
 // The table of subscriptions: document 01, "Table". Every call tests the whole state and refuses 7 exactly where it isn't well kept, then
-// document 01's other numbers in their order; a refusal hands back the table as it was. How a table lies in memory, what a call is told and
+// document 01's other numbers in their order; a refusal leaves the table as it was. How a table lies in memory, what a call answers and
 // what it does to the table is crate places' matter.
-//
-// A function that indexes the table hands it to nobody, and one that hands it on indexes nothing: so it is copied once for each.
 #![tactic(auto)]
 
 mod admission;
@@ -10,467 +8,324 @@ mod keeping;
 mod moves;
 mod scans;
 
-ghost use Rattle.std.specs.Prelude.{◌≡◌, ◌+◌, ◌-◌, ◌≤◌, true};
+ghost use Rattle.std.specs.Prelude.{◌≡◌, ◌+◌, ◌-◌, ◌≤◌, true, length, Ok};
 ghost use Rattle.rules.specs.Machine.{bad_reason};
 ghost use Rattle.changes.specs.Logs.{kept as log_kept};
 ghost use Rattle.places.specs.Views.{fresh_table, kept};
-ghost use Rattle.places.specs.Calls.{new_table, not_admitted, add_to, resume_in, not_completed, complete_in, attribute_at, send_at, not_woken, cancels_in, remove_in, clear_in, purged_table, purge_in, note_in, not_reported, hand_out_in, report_in, any_at, next_at, alive_at, fabric_count, load_of, has_at};
+ghost use Rattle.places.specs.Calls.{tabled, new_table, add_to, resume_in, complete_in, attribute_at, send_at, cancels_in, remove_in, clear_in, purged_table, purge_in, note_in, hand_out_in, report_in, any_at, next_at, alive_at, fabric_count, load_of, has_at};
+ghost use Rattle.table.specs.Scans.{well_kept};
 
-use admission::{Verdict, admits, next_id};
-use answers::{Change, Told};
+use admission::{admits, next_id};
+use answers::{Entered, value};
 use changes::ChangedAttrs;
 use choices::Choice;
 use instants::Instant;
-use keeping::{cancel_fits, either, lives, within};
-use moves::{
-    emptied, ended, handed, opened_up, reason_after, stored_last, swept, with_cancel, with_log,
-    with_next,
-};
-use places::{
-    Admission, Admitted, Alive, Completed, Completion, HandOut, Heard, Hearing, Load, Loaded,
-    Moment, Reported, Settled, Table, TableNoted, Waking, Woken,
-};
+use keeping::{is_sound, within};
+use moves::{emptied, ended, handed, opened_up, reason_after, stored_last, swept};
+use places::{Ended, Handed, Heard, Load, Table};
 use refusal::Refusal;
-use scans::{Measure, Test, count_stored, find_open, find_stored, least_stored, one_at};
+use scans::{
+    any_chosen, any_priming, any_report, any_served, any_struck, count_of_fabric, first_ready,
+    first_with_id, least_due, least_next, least_seen, one_with_id, open, stored,
+};
 use subscription::{ABANDONED, Request, Settings, Subscription};
 use time::KeepAlive;
 
-// How many places there are.
+// How many places there are. The memory is fixed: the core has no heap.
 pub(crate) const PLACES: usize = 80;
 
 // The reason with which clearing cancels the open report.
 const CLEARED: u8 = 255;
 
-// A fresh table. A capacity that is none makes a table that every call refuses.
-pub fn new(capacity: u8) -> Settled
-    ensures { result ≡ new_table capacity }
+// A fresh table. A capacity that is none makes a table too, which every call refuses: `new_table`, `refused_unkept`.
+pub fn new(capacity: u8) -> (Result<(), Refusal>, Table)
+    ensures { tabled result.0 result.1 ≡ new_table capacity }
 {
     if within(capacity, 0, 0) {
-        return Settled {
-            answer: Change::Done,
-            table: fresh(capacity),
-        };
-    }
-    Settled {
-        answer: Change::Refused(Refusal::BadArgument),
-        table: fresh(0),
+        (Ok(()), fresh(capacity))
+    } else {
+        (Err(Refusal::BadArgument), fresh(0))
     }
 }
 
 // A subscriber is admitted: it takes the next id, and its priming opens.
-pub fn add(table: Table, request: Request, events: u64, now: Instant) -> Admitted
-    ensures { result ≡ add_to table request events now }
+pub fn add(table: &mut Table, request: Request, events: u64, now: Instant) -> Result<u32, Refusal>
+    ensures { tabled result table.new ≡ add_to table.old request events now }
 {
-    if !is_kept(table) {
-        return not_admitted(table, Refusal::NotWellKept);
-    }
-    match admits(table, request, table.next) {
-        Verdict::Refuse(why) => not_admitted(table, why),
-        Verdict::Clear => {
-            let log = table.log;
-            let id = table.next;
-            let mark = log.watermark().value();
-            let x = Subscription::primed(request, id, mark, events, now);
-            Admitted {
-                answer: Admission::Id(id),
-                table: with_next(opened_up(table, x), next_id(id, id)),
-            }
-        }
-    }
+    well_kept(table)?;
+    let id = table.next;
+    admits(table, request, id)?;
+    let mark = value(table.log.watermark());
+    opened_up(table, Subscription::primed(request, id, mark, events, now));
+    table.next = next_id(id, id);
+    Ok(id)
 }
 
 // A subscriber that a restart brings back is stored under the id that it knows.
-pub fn resume(table: Table, id: u32, request: Request, events: u64) -> Admitted
-    ensures { result ≡ resume_in table id request events }
+pub fn resume(table: &mut Table, id: u32, request: Request, events: u64) -> Result<u32, Refusal>
+    ensures { tabled result table.new ≡ resume_in table.old id request events }
 {
-    if !is_kept(table) {
-        return not_admitted(table, Refusal::NotWellKept);
-    }
-    match admits(table, request, id) {
-        Verdict::Refuse(why) => not_admitted(table, why),
-        Verdict::Clear => {
-            let log = table.log;
-            let mark = log.watermark().value();
-            let x = Subscription::resumed(request, id, mark, events);
-            Admitted {
-                answer: Admission::Id(id),
-                table: with_next(stored_last(table, x), next_id(table.next, id)),
-            }
-        }
-    }
+    well_kept(table)?;
+    admits(table, request, id)?;
+    let mark = value(table.log.watermark());
+    stored_last(table, Subscription::resumed(request, id, mark, events));
+    table.next = next_id(table.next, id);
+    Ok(id)
 }
 
 // The open report or priming with the id ends with the outcome.
-pub fn complete(table: Table, id: u32, outcome: u8) -> Completed
-    ensures { result ≡ complete_in table id outcome }
+pub fn complete(table: &mut Table, id: u32, outcome: u8) -> Result<Ended, Refusal>
+    ensures { tabled result table.new ≡ complete_in table.old id outcome }
 {
-    if !is_kept(table) {
-        return not_completed(table, Refusal::NotWellKept);
-    }
+    well_kept(table)?;
     if ABANDONED < outcome {
-        return not_completed(table, Refusal::BadArgument);
+        return Err(Refusal::BadArgument);
     }
-    let at = find_open(table, Test::Id(id));
-    if 80 <= at {
-        return not_completed(table, Refusal::NotOpen);
-    }
-    ended(table, at, outcome)
+    let i = first_with_id(open(table), id).ok_or(Refusal::NotOpen)?;
+    Ok(ended(table, PLACES - table.opens + i, outcome))
 }
 
-// The stored ones that the choice takes go, and the open report is cancelled if it is among them. Primings stay.
-pub fn remove(table: Table, choice: Choice, reason: u8) -> Woken
-    ensures { result ≡ remove_in table choice reason }
+// The stored ones that the choice takes go, and the open report is cancelled if it is among them. Primings stay. Whether it wakes.
+pub fn remove(table: &mut Table, choice: Choice, reason: u8) -> Result<bool, Refusal>
+    ensures { tabled result table.new ≡ remove_in table.old choice reason }
 {
-    if !is_kept(table) {
-        return not_woken(table, Refusal::NotWellKept);
-    }
+    well_kept(table)?;
     if is_bad_reason(reason) {
-        return not_woken(table, Refusal::BadArgument);
+        return Err(Refusal::BadArgument);
     }
+    let removes = any_chosen(stored(table), choice);
     let cancels = cancels(table, choice);
-    let wakes = either(
-        find_stored(table, Test::Chosen(choice)) < table.stored,
-        cancels,
-    );
-    Woken {
-        answer: Waking::Wakes(wakes),
-        table: with_cancel(
-            swept(table, choice),
-            reason_after(cancels, reason, table.cancel),
-        ),
-    }
+    swept(table, choice);
+    table.cancel = reason_after(cancels, reason, table.cancel);
+    Ok(removes || cancels)
 }
 
 // Every stored one goes, and the open report is cancelled. It does not wake.
-pub fn clear(table: Table) -> Woken
-    ensures { result ≡ clear_in table }
+pub fn clear(table: &mut Table) -> Result<bool, Refusal>
+    ensures { tabled result table.new ≡ clear_in table.old }
 {
-    if !is_kept(table) {
-        return not_woken(table, Refusal::NotWellKept);
+    well_kept(table)?;
+    if any_priming(open(table)) {
+        return Err(Refusal::PrimingOpen);
     }
-    if find_open(table, Test::Priming) < 80 {
-        return not_woken(table, Refusal::PrimingOpen);
-    }
-    let cancels = find_open(table, Test::Report) < 80;
-    Woken {
-        answer: Waking::Wakes(false),
-        table: with_cancel(emptied(table), reason_after(cancels, CLEARED, table.cancel)),
-    }
+    let cancels = any_report(open(table));
+    emptied(table);
+    table.cancel = reason_after(cancels, CLEARED, table.cancel);
+    Ok(false)
 }
 
 // Entries of the log that every stored one has seen go, unless something is open.
-pub fn purge_reported_changes(table: Table) -> Settled
-    ensures { result ≡ purge_in table }
+pub fn purge_reported_changes(table: &mut Table) -> Result<(), Refusal>
+    ensures { tabled result table.new ≡ purge_in table.old }
 {
-    if !is_kept(table) {
-        return Settled {
-            answer: Change::Refused(Refusal::NotWellKept),
-            table: table,
-        };
-    }
-    Settled {
-        answer: Change::Done,
-        table: purged(table),
-    }
+    well_kept(table)?;
+    purged(table);
+    Ok(())
 }
 
 // A path has changed.
-pub fn note(table: Table, endpoint: u16, cluster: u32, attr: u32) -> TableNoted
-    ensures { result ≡ note_in table endpoint cluster attr }
+pub fn note(table: &mut Table, endpoint: u16, cluster: u32, attr: u32) -> Result<Heard, Refusal>
+    ensures { tabled result table.new ≡ note_in table.old endpoint cluster attr }
 {
-    if !is_kept(table) {
-        return TableNoted {
-            answer: Hearing::Refused(Refusal::NotWellKept),
-            table: table,
-        };
-    }
-    let log = table.log;
-    let identity = log.next;
-    let noted = log.note(endpoint, cluster, attr);
-    let after = noted.log;
-    TableNoted {
-        answer: Hearing::Entered(Heard {
-            identity: identity,
-            wakes: true,
-        }),
-        table: with_log(table, after),
-    }
+    well_kept(table)?;
+    let Entered { identity } = table.log.note(endpoint, cluster, attr)?;
+    Ok(Heard {
+        identity,
+        wakes: true,
+    })
 }
 
-// The first stored one that is reportable is handed out.
-pub fn report(table: Table, at: Settings) -> Reported
-    ensures { result ≡ report_in table at }
+// The first stored one that is reportable is handed out, if there is one.
+pub fn report(table: &mut Table, at: Settings) -> Result<Option<Handed>, Refusal>
+    ensures { tabled result table.new ≡ report_in table.old at }
 {
-    if !is_kept(table) {
-        return not_reported(table, Refusal::NotWellKept);
+    well_kept(table)?;
+    if any_report(open(table)) {
+        return Err(Refusal::ReportOpen);
     }
-    if find_open(table, Test::Report) < 80 {
-        return not_reported(table, Refusal::ReportOpen);
-    }
-    hand_out(table, at)
+    Ok(hand_out(table, at))
 }
 
 // Whether the open report or priming with the id tells of the attribute.
-pub fn should_report_attr(table: Table, id: u32, endpoint: u16, cluster: u32, attr: u32) -> Told
-    ensures { result ≡ attribute_at table id endpoint cluster attr }
+pub fn should_report_attr(
+    table: &Table,
+    id: u32,
+    endpoint: u16,
+    cluster: u32,
+    attr: u32,
+) -> Result<bool, Refusal>
+    ensures { result ≡ attribute_at table.now id endpoint cluster attr }
 {
-    if !is_kept(table) {
-        return Told::Refused(Refusal::NotWellKept);
+    well_kept(table)?;
+    let x = one_with_id(open(table), id).ok_or(Refusal::NotOpen)?;
+    if x.reported.is_never() {
+        return Ok(true);
     }
-    let at = find_open(table, Test::Id(id));
-    if 80 <= at {
-        return Told::Refused(Refusal::NotOpen);
-    }
-    let x = one_at(table, at);
-    let reported = x.reported;
-    if reported.is_never() {
-        return Told::Is(true);
-    }
-    let log = table.log;
-    log.contains_since(endpoint, cluster, attr, x.seen)
+    table.log.contains_since(endpoint, cluster, attr, x.seen)
 }
 
 // Whether the open report or priming with the id is sent though it has nothing to tell.
-pub fn should_send_if_empty(table: Table, id: u32, kind: KeepAlive) -> Told
-    ensures { result ≡ send_at table id kind }
+pub fn should_send_if_empty(table: &Table, id: u32, kind: KeepAlive) -> Result<bool, Refusal>
+    ensures { result ≡ send_at table.now id kind }
 {
-    if !is_kept(table) {
-        return Told::Refused(Refusal::NotWellKept);
-    }
-    let at = find_open(table, Test::Id(id));
-    if 80 <= at {
-        return Told::Refused(Refusal::NotOpen);
-    }
-    let x = one_at(table, at);
-    let opened = x.opened;
-    Told::Is(x.is_report_due(opened, kind))
+    well_kept(table)?;
+    let x = one_with_id(open(table), id).ok_or(Refusal::NotOpen)?;
+    Ok(x.is_report_due(x.opened, kind))
 }
 
-// The earliest instant at which a stored one could report.
-pub fn next_report_at(table: Table, events: u64, kind: KeepAlive) -> Moment
-    ensures { result ≡ next_at table events kind }
+// The earliest instant at which a stored one could report. `Settings` would ask for an instant and the all flag too.
+pub fn next_report_at(table: &Table, events: u64, kind: KeepAlive) -> Result<Instant, Refusal>
+    ensures { result ≡ next_at table.now events kind }
 {
-    if !is_kept(table) {
-        return Moment::Refused(Refusal::NotWellKept);
-    }
-    let log = table.log;
-    let newest = log.newest().value();
-    let last = Instant::LAST;
+    well_kept(table)?;
+    let newest = value(table.log.newest());
+    let now = Instant::LAST;
     let at = Settings {
-        now: last,
-        events: events,
-        kind: kind,
+        now,
+        events,
+        kind,
         all: false,
     };
-    Moment::At(Instant {
-        ms: least_stored(table, Measure::Next(at, newest), last.ms),
-    })
+    Ok(least_next(stored(table), at, newest))
 }
 
-// Whether a stored one is reportable now.
-pub fn any_reportable(table: Table, now: Instant, events: u64, kind: KeepAlive) -> Told
-    ensures { result ≡ any_at table now events kind }
+// Whether a stored one is reportable now. `Settings` would ask for the all flag too.
+pub fn any_reportable(
+    table: &Table,
+    now: Instant,
+    events: u64,
+    kind: KeepAlive,
+) -> Result<bool, Refusal>
+    ensures { result ≡ any_at table.now now events kind }
 {
-    if !is_kept(table) {
-        return Told::Refused(Refusal::NotWellKept);
-    }
-    let log = table.log;
-    let newest = log.newest().value();
+    well_kept(table)?;
+    let newest = value(table.log.newest());
     let at = Settings {
-        now: now,
-        events: events,
-        kind: kind,
+        now,
+        events,
+        kind,
         all: false,
     };
-    Told::Is(find_stored(table, Test::Ready(at, newest)) < table.stored)
+    Ok(first_ready(stored(table), at, newest).is_some())
 }
 
-// When an intermittently connected device wakes up for its subscriptions at the latest.
-pub fn next_keep_alive_at(table: Table) -> Alive
-    ensures { result ≡ alive_at table }
+// When an intermittently connected device wakes up for its subscriptions at the latest, if it has any.
+pub fn next_keep_alive_at(table: &Table) -> Result<Option<Instant>, Refusal>
+    ensures { result ≡ alive_at table.now }
 {
-    if !is_kept(table) {
-        return Alive::Refused(Refusal::NotWellKept);
-    }
+    well_kept(table)?;
     if table.stored == 0 {
-        return Alive::Never;
+        return Ok(None);
     }
-    let last = Instant::LAST;
-    Alive::At(Instant {
-        ms: least_stored(table, Measure::Due, last.ms),
-    })
+    Ok(Some(least_due(stored(table))))
 }
 
-// Figures for the status page: counted places, the stored of a fabric (0 where none is asked), and the ids given so far.
-pub fn load_stats(table: Table, fabric: u8) -> Loaded
-    ensures { result ≡ load_of table fabric }
+// Figures for the status page: counted places, the stored of a fabric, and the ids given so far. Fabric 0 asks for none, as document 01
+// has it.
+pub fn load_stats(table: &Table, fabric: u8) -> Result<Load, Refusal>
+    ensures { result ≡ load_of table.now fabric }
 {
-    if !is_kept(table) {
-        return Loaded::Refused(Refusal::NotWellKept);
-    }
-    Loaded::Is(Load {
+    well_kept(table)?;
+    Ok(Load {
         places: table.stored + table.opens,
         fabric: of_fabric(table, fabric),
-        established: less_one(table.next),
+        established: table.next.saturating_sub(1),
     })
 }
 
 // Whether the peer has a subscription that is served: the last report to it did not fail.
-pub fn has_subscription_for(table: Table, fabric: u8, peer: u64) -> Told
-    ensures { result ≡ has_at table fabric peer }
+pub fn has_subscription_for(table: &Table, fabric: u8, peer: u64) -> Result<bool, Refusal>
+    ensures { result ≡ has_at table.now fabric peer }
 {
-    if !is_kept(table) {
-        return Told::Refused(Refusal::NotWellKept);
-    }
-    Told::Is(find_stored(table, Test::Served(fabric, peer)) < table.stored)
+    well_kept(table)?;
+    Ok(any_served(stored(table), fabric, peer))
 }
 
 // Whether the table is well kept.
-pub fn is_kept(table: Table) -> bool
-    ensures { result ≡ kept table }
+pub fn is_kept(table: &Table) -> bool
+    ensures { result ≡ kept table.now }
 {
-    let stored = table.stored;
-    let opens = table.opens;
-    if !within(table.capacity, stored, opens) {
-        return false;
+    well_kept(table).is_ok()
+}
+
+// Nothing, where the table is well kept. That it has eighty places is in its type; the calls' proofs take it from here.
+fn well_kept(table: &Table) -> Result<(), Refusal>
+    ensures answer { result ≡ well_kept table.now }
+    ensures long { length table.now.places ≡ 80 }
+{
+    let (stored, open) = (stored(table), open(table));
+    if within(table.capacity, table.stored, table.opens)
+        && table.log.is_kept()
+        && is_sound(stored, open, table.cancel)
+    {
+        Ok(())
+    } else {
+        Err(Refusal::NotWellKept)
     }
-    let log = table.log;
-    if !log.is_kept() {
-        return false;
-    }
-    let lives = lives(table);
-    if lives.orphan {
-        return false;
-    }
-    let ids = lives.ids;
-    let n = stored + opens;
-    if !distinct::all_differ(&ids[..n]) {
-        return false;
-    }
-    cancel_fits(lives.reports, table.cancel)
 }
 
 fn fresh(capacity: u8) -> Table
     ensures { result ≡ fresh_table capacity }
 {
     Table {
-        places: [Subscription::BLANK; 80],
+        places: [Subscription::BLANK; PLACES],
         log: ChangedAttrs::new(),
         stored: 0,
         opens: 0,
         next: 1,
-        capacity: capacity,
+        capacity,
         cancel: 0,
     }
 }
 
-fn not_admitted(table: Table, why: Refusal) -> Admitted
-    ensures { result ≡ not_admitted table why }
+// The first stored one that is reportable opens its report. It works behind the test, and asks for what that told.
+fn hand_out(table: &mut Table, at: Settings) -> Option<Handed>
+    requires counts { table.old.stored + table.old.opens ≤ 80 }
+    requires long { length table.old.places ≡ 80 }
+    requires log { log_kept table.old.log ≡ true }
+    ensures { tabled (Ok result) table.new ≡ hand_out_in table.old at }
 {
-    Admitted {
-        answer: Admission::Refused(why),
-        table: table,
-    }
-}
-
-fn not_completed(table: Table, why: Refusal) -> Completed
-    ensures { result ≡ not_completed table why }
-{
-    Completed {
-        answer: Completion::Refused(why),
-        table: table,
-    }
-}
-
-fn not_woken(table: Table, why: Refusal) -> Woken
-    ensures { result ≡ not_woken table why }
-{
-    Woken {
-        answer: Waking::Refused(why),
-        table: table,
-    }
-}
-
-fn not_reported(table: Table, why: Refusal) -> Reported
-    ensures { result ≡ not_reported table why }
-{
-    Reported {
-        answer: HandOut::Refused(why),
-        table: table,
-    }
-}
-
-// The first stored one that is reportable opens its report.
-fn hand_out(table: Table, at: Settings) -> Reported
-    requires { (table.stored + table.opens ≤ 80) × (log_kept table.log ≡ true) }
-    ensures { result ≡ hand_out_in table at }
-{
-    let log = table.log;
-    let newest = log.newest().value();
-    let i = find_stored(table, Test::Ready(at, newest));
-    if i < table.stored {
-        return handed(table, i, log.watermark().value(), at);
-    }
-    Reported {
-        answer: HandOut::Nothing,
-        table: table,
-    }
+    let newest = value(table.log.newest());
+    let i = first_ready(stored(table), at, newest)?;
+    let mark = value(table.log.watermark());
+    Some(handed(table, i, mark, at))
 }
 
 // Whether a removal cancels the open report: it is taken, and not cancelled yet.
-fn cancels(table: Table, choice: Choice) -> bool
-    requires { table.opens ≤ 80 }
-    ensures { result ≡ cancels_in table choice }
+fn cancels(table: &Table, choice: Choice) -> bool
+    ensures { result ≡ cancels_in table.now choice }
 {
-    if table.cancel == 0 {
-        return find_open(table, Test::Struck(choice)) < 80;
-    }
-    false
+    table.cancel == 0 && any_struck(open(table), choice)
 }
 
 // No removal gives the reason 0, which says that nothing is cancelled, nor that of clearing.
 fn is_bad_reason(reason: u8) -> bool
     ensures { result ≡ bad_reason reason }
 {
-    if reason == 0 {
-        return true;
-    }
-    CLEARED <= reason
+    reason == 0 || CLEARED <= reason
 }
 
-// The table without the entries that every stored one has seen.
-fn purged(table: Table) -> Table
-    requires { table.stored ≤ 80 }
-    ensures { result ≡ purged_table table }
+// The table without the entries that every stored one has seen. A well-kept log refuses neither a purge nor emptying.
+fn purged(table: &mut Table)
+    ensures { table.new ≡ purged_table table.old }
 {
     if 0 < table.opens {
-        return table;
+        return;
     }
-    let log = table.log;
     if 0 < table.stored {
-        let first = one_at(table, 0);
-        let after = log.purge_up_to(least_stored(table, Measure::Seen, first.seen));
-        let left = after.log;
-        return with_log(table, left);
+        let seen = least_seen(stored(table), table.places[0].seen);
+        let _ = table.log.purge_up_to(seen);
+    } else {
+        let _ = table.log.clear();
     }
-    let none = log.clear();
-    let left = none.log;
-    with_log(table, left)
 }
 
 // How many stored ones are of the fabric; none where no fabric is asked.
-fn of_fabric(table: Table, fabric: u8) -> usize
-    requires { table.stored ≤ 80 }
-    ensures { result ≡ fabric_count table fabric }
+fn of_fabric(table: &Table, fabric: u8) -> usize
+    ensures { result ≡ fabric_count table.now fabric }
 {
     if fabric == 0 {
         return 0;
     }
-    count_stored(table, Test::Fabric(fabric))
-}
-
-fn less_one(n: u32) -> u32
-    ensures { result ≡ n - 1 }
-{
-    if n == 0 { 0 } else { n - 1 }
+    count_of_fabric(stored(table), fabric)
 }

@@ -1,181 +1,140 @@
-// Looking over the stored or the open ones: where the first is that passes a test, how many do, and the least of a measure.
-ghost use Rattle.std.specs.Prelude.{◌≡◌, ◌<◌, ◌≤◌, min, slice_index_or};
-ghost use Rattle.lists.specs.Search.{count, first, least_by};
-ghost use Rattle.subscription.specs.Life.{blank};
-ghost use Rattle.places.specs.Views.{stored_of, first_open};
-ghost use Rattle.places.specs.Tests.{served, struck};
-ghost use Rattle.table.specs.Scans.{passes, measured};
+// The stored and the open ones as slices of the table, and what a call asks of them: is there one, where is the first, how many, the least.
+// Each is the library's word with a test or a measure of document 01's, which its contract names.
+ghost use Rattle.std.specs.Prelude.{◌≡◌, length};
+ghost use Rattle.std.specs.List.{find, list_any, position};
+ghost use Rattle.lists.specs.Search.{count, least_by};
+ghost use Rattle.instants.specs.Instants.{instant, last_instant};
+ghost use Rattle.choices.specs.Choices.{chosen};
+ghost use Rattle.rules.specs.States.{is_report, is_priming, has_id};
+ghost use Rattle.places.specs.Views.{stored_of, opens_of};
+ghost use Rattle.places.specs.Tests.{ready_by, of_fabric, served, struck, next_by, icd_due, seen_of};
 
 use super::PLACES;
 use choices::Choice;
+use instants::Instant;
 use places::Table;
 use subscription::{Settings, Subscription};
 use time::KeepAlive;
 
-// Which subscriptions a scan is after.
-#[derive(Clone, Copy)]
-pub(crate) enum Test {
-    Id(u32),
-    Report,
-    Priming,
-    // Reportable at the settings; the number is the log's greatest identity.
-    Ready(Settings, u64),
-    Chosen(Choice),
-    // The report, where the choice takes it.
-    Struck(Choice),
-    Fabric(u8),
-    // Of the fabric and the peer, with no failure since the last report.
-    Served(u8, u64),
-}
-
-impl Test {
-    fn passes(self, x: Subscription) -> bool
-        ensures { result ≡ passes self x }
-    {
-        match self {
-            Test::Id(id) => x.id == id,
-            Test::Report => x.reporting,
-            Test::Priming => !x.reporting,
-            Test::Ready(at, newest) => {
-                let now = at.now;
-                let kind = at.kind;
-                x.is_reportable(now, x.seen < newest, at.events, kind, at.all)
-            }
-            Test::Chosen(choice) => choice.takes(x),
-            Test::Struck(choice) => is_struck(choice, x),
-            Test::Fabric(fabric) => x.fabric == fabric,
-            Test::Served(fabric, peer) => is_served(x, fabric, peer),
-        }
-    }
-}
-
-// What a scan takes the least of.
-#[derive(Clone, Copy)]
-pub(crate) enum Measure {
-    // The next instant; the number is the log's greatest identity.
-    Next(Settings, u64),
-    // The due instant on an intermittently connected device.
-    Due,
-    // The seen watermark.
-    Seen,
-}
-
-impl Measure {
-    fn of(self, x: Subscription) -> u64
-        ensures { result ≡ measured self x }
-    {
-        match self {
-            Measure::Next(at, newest) => {
-                let kind = at.kind;
-                let next = x.next_report_at(x.seen < newest, at.events, kind);
-                next.ms
-            }
-            Measure::Due => {
-                let due = x.report_due_at(KeepAlive::Icd);
-                due.ms
-            }
-            Measure::Seen => x.seen,
-        }
-    }
-}
-
-// The place of the first stored one that passes the test, or the number of stored ones where none does.
-pub(crate) fn find_stored(table: Table, test: Test) -> usize
-    requires { table.stored ≤ 80 }
-    ensures { result ≡ first (passes test) (stored_of table) }
+// The stored ones, in their order. That the table has eighty places is in its type; the calls' proofs take it from here.
+#[tactic(auto, using(std::proofs::lemmas::List::take_min))]
+pub(crate) fn stored(table: &Table) -> &[Subscription]
+    ensures are { result.now ≡ stored_of table.now }
+    ensures long { length table.now.places ≡ 80 }
 {
-    let n = table.stored;
-    let mut i: usize = 0;
-    while i < n {
-        let x = table.places[i];
-        if test.passes(x) {
-            return i;
-        }
-        i += 1;
-    }
-    i
+    let places: &[Subscription] = &table.places;
+    &places[..table.stored.min(places.len())]
 }
 
-// The place of the first open one that passes the test, or the number of places where none does.
-pub(crate) fn find_open(table: Table, test: Test) -> usize
-    requires { table.opens ≤ 80 }
-    ensures { result ≡ first_open table (passes test) }
+// The open ones, the newest first.
+pub(crate) fn open(table: &Table) -> &[Subscription]
+    ensures { result.now ≡ opens_of table.now }
 {
-    let mut i = PLACES - table.opens;
-    while i < 80 {
-        let x = table.places[i];
-        if test.passes(x) {
-            return i;
-        }
-        i += 1;
-    }
-    i
+    &table.places[PLACES.saturating_sub(table.opens)..]
 }
 
-// The one at a place.
-pub(crate) fn one_at(table: Table, i: usize) -> Subscription
-    requires { i < 80 }
-    ensures { result ≡ slice_index_or table.places i blank }
+#[tactic(auto, unfolding(rules::specs::States::has_id))]
+pub(crate) fn any_with_id(xs: &[Subscription], id: u32) -> bool
+    ensures { result ≡ list_any (has_id id) xs.now }
 {
-    table.places[i]
+    xs.iter().any(|x| x.id == id)
 }
 
-// How many stored ones pass the test.
-pub(crate) fn count_stored(table: Table, test: Test) -> usize
-    requires { table.stored ≤ 80 }
-    ensures { result ≡ count (passes test) (stored_of table) }
+pub(crate) fn any_report(xs: &[Subscription]) -> bool
+    ensures { result ≡ list_any is_report xs.now }
 {
-    let n = table.stored;
-    let mut found: usize = 0;
-    let mut i: usize = 0;
-    while i < n {
-        let x = table.places[i];
-        i += 1;
-        if test.passes(x) {
-            found += 1;
-        }
-    }
-    found
+    xs.iter().any(|x| x.reporting)
 }
 
-// The least measure of the stored ones and a bound.
-pub(crate) fn least_stored(table: Table, measure: Measure, bound: u64) -> u64
-    requires { table.stored ≤ 80 }
-    ensures { result ≡ least_by (measured measure) bound (stored_of table) }
+pub(crate) fn any_priming(xs: &[Subscription]) -> bool
+    ensures { result ≡ list_any is_priming xs.now }
 {
-    let n = table.stored;
-    let mut least = bound;
-    let mut i: usize = 0;
-    while i < n {
-        let x = table.places[i];
-        i += 1;
-        least = lesser(least, measure.of(x));
-    }
-    least
+    xs.iter().any(|x| !x.reporting)
 }
 
-fn lesser(a: u64, b: u64) -> u64
-    ensures { result ≡ min a b }
+pub(crate) fn any_chosen(xs: &[Subscription], choice: Choice) -> bool
+    ensures { result ≡ list_any (chosen choice) xs.now }
 {
-    if a <= b { a } else { b }
+    xs.iter().any(|x| choice.takes(*x))
 }
 
-fn is_served(x: Subscription, fabric: u8, peer: u64) -> bool
-    ensures { result ≡ served fabric peer x }
+// Whether the report is among them and the choice takes it.
+#[tactic(auto, unfolding(places::specs::Tests::struck))]
+pub(crate) fn any_struck(xs: &[Subscription], choice: Choice) -> bool
+    ensures { result ≡ list_any (struck choice) xs.now }
 {
-    if x.fabric == fabric {
-        if x.peer == peer {
-            return x.fails == 0;
-        }
-    }
-    false
+    xs.iter().any(|x| x.reporting && choice.takes(*x))
 }
 
-fn is_struck(choice: Choice, x: Subscription) -> bool
-    ensures { result ≡ struck choice x }
+// Whether one is of the fabric and the peer, with no failure since the last report.
+#[tactic(auto, unfolding(places::specs::Tests::served))]
+pub(crate) fn any_served(xs: &[Subscription], fabric: u8, peer: u64) -> bool
+    ensures { result ≡ list_any (served fabric peer) xs.now }
 {
-    if x.reporting {
-        return choice.takes(x);
-    }
-    false
+    xs.iter()
+        .any(|x| x.fabric == fabric && (x.peer == peer && x.fails == 0))
+}
+
+// The place of the first with the id.
+#[tactic(auto, unfolding(rules::specs::States::has_id))]
+pub(crate) fn first_with_id(xs: &[Subscription], id: u32) -> Option<usize>
+    ensures { result ≡ position (has_id id) xs.now }
+{
+    xs.iter().position(|x| x.id == id)
+}
+
+// The first with the id.
+#[tactic(auto, unfolding(rules::specs::States::has_id))]
+pub(crate) fn one_with_id(xs: &[Subscription], id: u32) -> Option<Subscription>
+    ensures { result ≡ find (has_id id) xs.now }
+{
+    xs.iter().copied().find(|x| x.id == id)
+}
+
+// The place of the first that is reportable at the settings; the number is the log's greatest identity.
+#[tactic(auto, unfolding(places::specs::Tests::ready_by))]
+pub(crate) fn first_ready(xs: &[Subscription], at: Settings, newest: u64) -> Option<usize>
+    ensures { result ≡ position (ready_by at newest) xs.now }
+{
+    xs.iter().position(|x| x.is_reportable(at, x.seen < newest))
+}
+
+#[tactic(auto, using(lists::proofs::Library::count_filter), unfolding(places::specs::Tests::of_fabric))]
+pub(crate) fn count_of_fabric(xs: &[Subscription], fabric: u8) -> usize
+    ensures { result ≡ count (of_fabric fabric) xs.now }
+{
+    xs.iter().filter(|x| x.fabric == fabric).count()
+}
+
+// The least of their next instants; the number is the log's greatest identity.
+#[tactic(auto, using(lists::proofs::Library::least_fold), unfolding(places::specs::Tests::next_by))]
+pub(crate) fn least_next(xs: &[Subscription], at: Settings, newest: u64) -> Instant
+    ensures { result ≡ instant (least_by (next_by at newest) last_instant.ms xs.now) }
+{
+    Instant::at(
+        xs.iter().fold(u64::MAX, |least, x| {
+            least.min(x.next_report_at(x.seen < newest, at.events, at.kind).ms)
+        }),
+    )
+}
+
+// The least of their due instants on an intermittently connected device.
+#[tactic(auto, using(lists::proofs::Library::least_fold), unfolding(places::specs::Tests::icd_due))]
+pub(crate) fn least_due(xs: &[Subscription]) -> Instant
+    ensures { result ≡ instant (least_by icd_due last_instant.ms xs.now) }
+{
+    Instant::at(
+        xs.iter().fold(
+            u64::MAX,
+            |least, x| least.min(x.report_due_at(KeepAlive::Icd).ms),
+        ),
+    )
+}
+
+// The least of the bound and the watermarks that they have seen.
+#[tactic(auto, using(lists::proofs::Library::least_fold), unfolding(places::specs::Tests::seen_of))]
+pub(crate) fn least_seen(xs: &[Subscription], bound: u64) -> u64
+    ensures { result ≡ least_by seen_of bound xs.now }
+{
+    xs.iter().fold(bound, |least, x| least.min(x.seen))
 }

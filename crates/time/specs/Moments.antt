@@ -1,10 +1,8 @@
 -- The four instants that a subscription's life turns on, as document 01 has them, "Time": the gate, the due instant, the retry and the expiry.
 -- Each adds seconds to an instant and says what a sum past the last instant means: the first two "at once", the third "at the end", the fourth "never".
 -- Assumes nothing.
-use Rattle.std.specs.Prelude.{Bool, false, cond, ℕ, leb}
+use Rattle.std.specs.Prelude.{Bool, false, cond, ℕ, leb, Option, Some, None}
 use Rattle.instants.specs.declared.Instant.{Instant}
-use Rattle.instants.specs.declared.Later.{Later}
-use Rattle.instants.specs.declared.Later.TheVariants.{At, Overflow}
 use Rattle.time.specs.declared.KeepAlive.{KeepAlive}
 use Rattle.instants.specs.Instants.{first_instant, last_instant, later, or_else, never_reported}
 use Rattle.time.specs.Intervals.{backoff_secs, due_after_secs}
@@ -26,9 +24,9 @@ unfoldable pub retry_at : Instant → ℕ → ℕ → Instant
 retry_at opened fails longest = or_else (later opened (backoff_secs fails longest)) last_instant
 
 -- an instant has come by now; one that does not exist never does
-abbrev pub come_by : Later → Instant → Bool
-come_by (At i) now = leb i.ms now.ms
-come_by Overflow now = false
+abbrev pub come_by : Option Instant → Instant → Bool
+come_by (Some i) now = leb i.ms now.ms
+come_by None now = false
 
 -- "Expired: reported_at + max_int ≤ now; on overflow not expired."
 unfoldable pub expired : Instant → ℕ → Instant → Bool

@@ -2,10 +2,13 @@
 -- Assumes nothing.
 use mathlib.Core.Path.{◌≡◌, ap, ◌∙◌}
 use mathlib.Core.List.{List}
-use Prim.Native.Nat.{ℕ, ◌+◌, ◌-◌, ◌≤◌, ◌<◌}
+use Prim.Native.Nat.{ℕ, ◌-◌, ◌≤◌, ◌<◌}
 use native.Mathlib.Omega.{arith}
 use lib.ListN.{length, length-drop, take, drop}
 use lib.Seq.{length-take-le}
+use borrow.Author.Tests.{eqb-false}
+use lib.Dec.{eqb}
+use mathlib.Core.Bool.{false}
 use Rattle.lists.proofs.Parts.{rest}
 use Rattle.printing.specs.Answers.{answer_room}
 use Rattle.tracing.specs.declared.Ran.{Ran}
@@ -13,29 +16,24 @@ use Rattle.tracing.specs.declared.Session.{Session}
 use Rattle.tracing.specs.Runs.{Work, worked, run_of, finish_of}
 use Rattle.tracing.proofs.Driving.{run_fits, run_long, run_within, run_moves, finish_fits, finish_long}
 
-module _ (x : Session) (held s out : List ℕ) (at : ℕ) (r : Ran) (h o : List ℕ)
-    (e : worked r h o ≡ run_of x held (take (length s - at) (drop at s)) out) where
-  abbrev left : List ℕ
-  left = drop at s
-
-  same : worked r h o ≡ run_of x held left out
-  same = e ∙ ap (λ (l : List ℕ). run_of x held l out) (rest s at)
-
+module _ (x y : Session) (held s out : List ℕ) (r : Ran) (h o : List ℕ) (e : worked y r h o ≡ run_of x held s out) where
   pub wrote_fits : r.wrote ≤ length out
-  wrote_fits = omega (arith, ap (λ (w : Work). w.wrote) same, run_fits x held left out)
+  wrote_fits = omega (arith, ap (λ (w : Work). w.wrote) e, run_fits x held s out)
+
+  pub out_long : length o ≡ length out
+  out_long = ap (λ (w : Work). length w.out) e ∙ run_long x held s out
 
   pub wrote_length : length (take r.wrote o) ≡ r.wrote
-  wrote_length =
-      let long : length o ≡ length out = ap (λ (w : Work). length w.out) same ∙ run_long x held left out in
-      length-take-le r.wrote o (omega (arith, wrote_fits))
+  wrote_length = length-take-le r.wrote o (omega (arith, wrote_fits, out_long))
 
-  pub used_fits : at ≤ length s → at + r.used ≤ length s
-  used_fits k = omega (arith, ap (λ (w : Work). w.used) same, run_within x held left out, length-drop at s)
+  pub used_fits : r.used ≤ length s
+  used_fits = omega (arith, ap (λ (w : Work). w.used) e, run_within x held s out)
 
-  pub used_some : at < length s → answer_room ≤ length out → 0 < r.used
-  used_some k room =
-      let some : 0 < length left = omega (arith, length-drop at s) in
-      omega (arith, ap (λ (w : Work). w.used) same, run_moves x held left out room some)
+  pub gets_on : eqb (length s) 0 ≡ false → answer_room ≤ length out → length (take (length s - r.used) (drop r.used s)) < length s
+  gets_on more room =
+      let some : 0 < length s = omega (arith, eqb-false (length s) 0 more) in
+      let used : 0 < r.used = omega (arith, ap (λ (w : Work). w.used) e, run_moves x held s out room some) in
+      rw rest (omega (arith, length-drop r.used s, some, used))
 
 module _ (x : Session) (held out o : List ℕ) (wrote : ℕ) (e : (wrote, o) ≡ finish_of x held out) (room : answer_room ≤ length out) where
   pub last_fits : wrote ≤ length out

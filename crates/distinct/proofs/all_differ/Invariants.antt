@@ -1,10 +1,8 @@
--- `all_differ` meets its contract. The invariant: from i on every residue is marked and the numbers differ.
+-- `all_differ` meets its contract. The invariant: the residues so far are marked, and the numbers so far differ.
 -- Assumes nothing.
+use lib.ListN.{take}
 use Rattle.distinct.proofs.Marks.{Marked}
 use Rattle.distinct.proofs.all_differ.Given as goal
 
-abbrev pub invariant-loop-i : goal.invariant-loop-i
-invariant-loop-i l = Marked l.ids l.seen l.i
-
-abbrev pub decreases-loop-i : goal.decreases-loop-i
-decreases-loop-i l = l.i
+abbrev pub invariant-loop-id : goal.invariant-loop-id
+invariant-loop-id l = Marked (take l.id-index l.ids) l.seen

@@ -1,33 +1,30 @@
--- `each_differs` meets its contract. The invariant: all differ exactly where those from i on do.
+-- `each_differs` meets its contract: one turn is the definition's own, in the words of `contains`.
 -- Assumes nothing.
 use mathlib.Core.Path.{sym, ◌∙◌}
 use native.Mathlib.Omega.{arith}
-use borrow.Author.Rules.{rules}
-use lib.Seq.{take-length}
-use lib.ListN.{length}
+use Rattle.std.proofs.lemmas.List.{drop_all}
+use Prim.Native.Nat.{◌+◌}
 use Rattle.lists.specs.Search.{distinct}
-use Rattle.distinct.proofs.Marks.{differ_here, differ_done}
+use Rattle.lists.proofs.Parts.{rest}
+use Rattle.distinct.proofs.Marks.{differ_here}
 use Rattle.distinct.proofs.each_differs.Goals as goal
 
-pub loop-i-init : goal.loop-i-init
-loop-i-init c = (rw (take-length c.args.ids.now), search rules)
-
-pub returns-then-stands_from : goal.returns-then-stands_from
-unfolding distinct
-returns-then-stands_from c =
+pub returns-then-contains : goal.returns-then-contains
+returns-then-contains c =
     let a = c.args.ids.now in
-    let k = c.loop-i in
-    sym (k.invariant.0 ∙ differ_here a (length a) (omega arith) k.i (omega arith) ∙ rw (sym c.stands_from.ensures ∙ c.if-stands_from.true, distinct))
+    let i = c.loop-i.i in
+    let found = sym c.contains.ensures.value ∙ c.if-contains.true in
+    sym (c.loop-i.invariant ∙ differ_here a i (omega arith) ∙ rw (← rest a (i + 1)) (rw found))
 
 pub loop-i-preserved : goal.loop-i-preserved
-unfolding distinct
 loop-i-preserved c =
     let a = c.args.ids.now in
-    let k = c.loop-i in
-    (k.invariant.0 ∙ differ_here a (length a) (omega arith) k.i (omega arith) ∙ rw (sym c.stands_from.ensures ∙ c.if-stands_from.false, distinct), search rules)
+    let i = c.loop-i.i in
+    let none = sym c.contains.ensures.value ∙ c.if-contains.false in
+    c.loop-i.invariant ∙ differ_here a i (omega arith) ∙ rw (← rest a (i + 1)) (rw none)
 
 pub returns : goal.returns
+unfolding distinct
 returns c =
     let a = c.args.ids.now in
-    let k = c.loop-i in
-    sym (k.invariant.0 ∙ differ_done a (length a) (omega arith) k.i (omega arith) (omega arith))
+    sym (c.loop-i.invariant ∙ rw (drop_all c.loop-i.i a (omega arith), distinct))

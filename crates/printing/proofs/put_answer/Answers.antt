@@ -23,7 +23,7 @@ put : (c : After-put_field-c) →
     Put a.out.now a.at (((digits_of a.number ++ (comma ∷ [])) ++ (digits_of a.code ++ (comma ∷ []))) ++ (digits_of a.value ++ (CR ∷ [])))
     c.put_field-c.result c.put_field-c.new.out
 put c =
-    three_put _ _ _ _ _ _ _ _ (room c) c.put_field-a.ensures c.put_field-b.ensures c.put_field-c.ensures
+    three_put _ _ _ _ _ _ _ _ (room c) c.put_field-a.ensures (rw c.from.ensures at c.put_field-b.ensures) c.put_field-c.ensures
 
 free : (c : After-put_field-c) → c.put_field-c.result < length c.put_field-c.new.out
 free c =

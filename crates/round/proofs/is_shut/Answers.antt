@@ -1,16 +1,16 @@
--- `is_shut` meets its contract: the answer of a report, case by case.
+-- `is_shut` meets its contract: the report that was tried is refused.
 -- Assumes nothing.
-use Rattle.round.specs.Rounds.{is_shut}
+use Rattle.std.proofs.Common.{Result, Ok, Err, refl, ap, ◌≡◌, ◌∙◌, Option}
+use Rattle.std.specs.Prelude.{is_err}
+use Rattle.refusal.specs.declared.Refusal.{Refusal}
+use Rattle.places.specs.declared.Handed.{Handed}
+use Rattle.round.specs.Rounds.{refuses, is_shut}
 use Rattle.round.proofs.is_shut.Goals as goal
 
-pub returns-in-To : goal.returns-in-To
-unfolding is_shut
-returns-in-To c = rw (← c.report-tried.ensures, c.in-To.is, is_shut)
+says : (a : Result (Option Handed) Refusal) → is_err a ≡ refuses a
+says (Ok x) = refl
+says (Err why) = refl
 
-pub returns-in-Nothing : goal.returns-in-Nothing
+pub returns-clause-shut : goal.returns-clause-shut
 unfolding is_shut
-returns-in-Nothing c = rw (← c.report-tried.ensures, c.in-Nothing.is, is_shut)
-
-pub returns-in-Refused : goal.returns-in-Refused
-unfolding is_shut
-returns-in-Refused c = rw (← c.report-tried.ensures, c.in-Refused.is, is_shut)
+returns-clause-shut c = c.is_err.ensures.value ∙ says c.report.result ∙ ap (λ r. refuses r.answer) c.report.ensures

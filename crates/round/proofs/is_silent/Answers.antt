@@ -1,16 +1,21 @@
--- `is_silent` meets its contract: the answer of a report, case by case.
+-- `is_silent` meets its contract: the report that was tried finds nobody.
 -- Assumes nothing.
-use Rattle.round.specs.Rounds.{is_silent}
+use Rattle.std.proofs.Common.{Bool, true, false, not, Option, Some, None, ◌≡◌, Ok, refl}
+use Rattle.std.specs.Prelude.{is_some}
+use Rattle.places.specs.declared.Handed.{Handed}
+use Rattle.round.specs.Rounds.{says_nothing, is_silent}
 use Rattle.round.proofs.is_silent.Goals as goal
 
-pub returns-in-To : goal.returns-in-To
-unfolding is_silent
-returns-in-To c = rw (← c.report-tried.ensures, c.in-To.is, is_silent)
+says : (a : Option Handed) {b : Bool} → is_some a ≡ not b → b ≡ says_nothing (Ok a)
+says (Some x) {b = true} e = e
+says (Some x) {b = false} e = refl
+says None {b = true} e = refl
+says None {b = false} e = e
 
-pub returns-in-Nothing : goal.returns-in-Nothing
+pub returns-in-Ok : goal.returns-in-Ok
 unfolding is_silent
-returns-in-Nothing c = rw (← c.report-tried.ensures, c.in-Nothing.is, is_silent)
+returns-in-Ok c = rw (← c.report.ensures, c.in-Ok.is) (says c.in-Ok.handed c.is_none.ensures)
 
-pub returns-in-Refused : goal.returns-in-Refused
+pub returns-in-Err : goal.returns-in-Err
 unfolding is_silent
-returns-in-Refused c = rw (← c.report-tried.ensures, c.in-Refused.is, is_silent)
+returns-in-Err c = rw (← c.report.ensures, c.in-Err.is)

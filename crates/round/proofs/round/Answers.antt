@@ -1,7 +1,6 @@
 -- `round` meets its contract: refused with 7, for its slices or for an open report, or the turns that `serve` makes.
 -- Assumes nothing.
 use mathlib.Core.Path.{sym, ◌∙◌}
-use borrow.Author.Rules.{rules}
 use Rattle.round.specs.Rounds.{round_of}
 use Rattle.rules.specs.Calls as call
 use Rattle.round.proofs.Refusing.{same_lengths, shut_is, refused_slices, refused_shut, not_refused}
@@ -12,14 +11,14 @@ pub returns-then-not-is_kept : goal.returns-then-not-is_kept
 unfolding round_of
 returns-then-not-is_kept c =
     let a = c.args in
-    rw (unkept a.table (sym c.is_kept.ensures ∙ c.if-not-is_kept.true) (call.round a.at a.outcomes.now a.ids.now), round_of, c.not_rounded.ensures)
+    rw (unkept a.table.now (sym c.is_kept.ensures ∙ c.if-not-is_kept.true) (call.round a.at a.outcomes.now a.ids.now), round_of)
 
 pub returns-then-are_bad : goal.returns-then-are_bad
 unfolding round_of
 returns-then-are_bad c =
     let a = c.args in
     let k = sym c.is_kept.ensures ∙ c.if-not-is_kept.false in
-    rw (refused_slices a.table k a.at a.outcomes.now a.ids.now (sym c.are_bad.ensures ∙ c.if-are_bad.true), round_of, c.not_rounded-then-are_bad.ensures)
+    rw (refused_slices a.table.now k a.at a.outcomes.now a.ids.now (sym c.are_bad.ensures ∙ c.if-are_bad.true), round_of)
 
 pub returns-then-is_shut : goal.returns-then-is_shut
 unfolding round_of
@@ -27,11 +26,11 @@ returns-then-is_shut c =
     let a = c.args in
     let k = sym c.is_kept.ensures ∙ c.if-not-is_kept.false in
     let good = sym c.are_bad.ensures ∙ c.if-are_bad.false in
-    let shut = sym (shut_is a.table k (search rules) a.at) ∙ sym c.is_shut.ensures ∙ c.if-is_shut.true in
-    rw (refused_shut a.table k a.at a.outcomes.now a.ids.now good shut, round_of, c.not_rounded-then-is_shut.ensures)
+    let shut = sym (shut_is a.table.now k c.is_shut.ensures.long a.at) ∙ sym c.is_shut.ensures.shut ∙ c.if-is_shut.true in
+    rw (refused_shut a.table.now k a.at a.outcomes.now a.ids.now good shut, round_of)
 
-pub serve-end-requires : goal.serve-end-requires
-serve-end-requires c =
+pub serve-handouts-requires : goal.serve-handouts-requires
+serve-handouts-requires c =
     same_lengths _ _ (sym c.are_bad.ensures ∙ c.if-are_bad.false)
 
 pub returns : goal.returns
@@ -40,5 +39,5 @@ returns c =
     let a = c.args in
     let k = sym c.is_kept.ensures ∙ c.if-not-is_kept.false in
     let good = sym c.are_bad.ensures ∙ c.if-are_bad.false in
-    let free = sym (shut_is a.table k (search rules) a.at) ∙ sym c.is_shut.ensures ∙ c.if-is_shut.false in
-    rw (not_refused a.table k a.at a.outcomes.now a.ids.now good free, round_of, ← c.serve-end.ensures, c.is_silent.ensures)
+    let free = sym (shut_is a.table.now k c.is_shut.ensures.long a.at) ∙ sym c.is_shut.ensures.shut ∙ c.if-is_shut.false in
+    rw (not_refused a.table.now k a.at a.outcomes.now a.ids.now good free, round_of, ← c.serve-handouts.ensures, c.is_silent.ensures)

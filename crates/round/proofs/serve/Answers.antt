@@ -1,28 +1,26 @@
 -- `serve` meets its contract: what is left of the round is the round of the outcomes that are left.
 -- Assumes nothing.
-use mathlib.Core.Path.{refl, sym, ◌∙◌}
-use native.Mathlib.Omega.{arith}
-use borrow.Author.Rules.{rules}
-use lib.ListN.{length-set}
+use Rattle.std.proofs.Common.{◌≡◌, length, sym, ap, ◌∙◌, arith, length-set}
+use Rattle.round.specs.Rounds.{stood}
 use Rattle.round.proofs.Steps.{turn_made, turn_missed, turns_end}
 use Rattle.round.proofs.serve.Goals as goal
 
-pub loop-n-init : goal.loop-n-init
-loop-n-init c = (refl, (search rules, search rules))
-
-pub bounds-ids-n : goal.bounds-ids-n
-bounds-ids-n c = omega arith
-
 pub loop-n-preserved : goal.loop-n-preserved
 loop-n-preserved c =
-    let l = c.loop-n in (
-      l.invariant.0 ∙ turn_made _ _ _ _ _ c.loop-n-test.true (rw (← c.take_turn-next.ensures) c.if-next.true) ∙ rw (← c.take_turn-next.ensures),
-      (omega arith, l.invariant.1.1 ∙ sym (length-set l.ids l.n c.take_turn-next.result.id)),
+    let l = c.loop-n in
+    let made = ap (λ r. r.handed) c.take_turn.ensures in (
+      l.invariant.0 ∙ turn_made _ _ _ _ _ c.loop-n-test.true (sym made ∙ c.in-Some.is) ∙ rw (← c.take_turn.ensures),
+      l.invariant.1 ∙ sym (length-set l.ids l.n c.in-Some.id),
     )
 
-pub returns-else-next : goal.returns-else-next
-returns-else-next c =
-    sym (c.loop-n.invariant.0 ∙ turn_missed _ _ _ _ _ c.loop-n-test.true (rw (← c.take_turn-next.ensures) c.if-next.false) ∙ rw (← c.take_turn-next.ensures))
+pub returns-in-None : goal.returns-in-None
+returns-in-None c =
+    let l = c.loop-n in
+    let made = ap (λ r. r.handed) c.take_turn.ensures in
+    sym (l.invariant.0 ∙ turn_missed _ _ _ _ _ c.loop-n-test.true (sym made ∙ c.in-None.is) ∙ rw (← c.take_turn.ensures))
 
 pub returns : goal.returns
-returns c = sym (c.loop-n.invariant.0 ∙ turns_end _ _ _ _ _ c.loop-n-test.false)
+returns c =
+    let l = c.loop-n in
+    let many : l.n ≡ length c.args.outcomes.now = omega (arith, c.loop-n-test.false, l.auto.n-end) in
+    sym (l.invariant.0 ∙ turns_end _ _ _ _ _ c.loop-n-test.false ∙ ap (λ n. (stood n l.table, l.ids)) many)

@@ -6,42 +6,43 @@ use Rattle.rules.specs.Machine.{first_of}
 use Rattle.answers.specs.Numbers.{mark_value}
 use Rattle.changes.specs.Logs.{watermark_of}
 use Rattle.rules.specs.Calls as call
-use Rattle.places.proofs.Refusing.{kept_counts, kept_log, past_kept, unkept, add_same, room_left}
-use Rattle.table.proofs.Verdicts.{verdict_clear, verdict_why}
+use Rattle.places.proofs.Refusing.{kept_counts, kept_log, past_kept, add_same, room_left}
+use Rattle.table.proofs.Standing.{well, unwell, clear, stands}
 use Rattle.changes.proofs.Answering.{mark_answer}
 use Rattle.table.proofs.add.Goals as goal
 
-pub returns-then-not-is_kept : goal.returns-then-not-is_kept
+pub returns-in_err-well_kept : goal.returns-in_err-well_kept
 unfolding add_to
-returns-then-not-is_kept c =
+returns-in_err-well_kept c =
     let a = c.args in
-    rw (unkept a.table (sym c.is_kept.ensures ∙ c.if-not-is_kept.true) (call.add a.request a.events a.now), add_to) c.not_admitted.ensures
+    rw (unwell a.table.now (sym c.well_kept.ensures.answer ∙ c.in_err-well_kept.was) (call.add a.request a.events a.now), add_to) (search rules)
 
 pub admits-requires : goal.admits-requires
-admits-requires c =
-    kept_counts c.args.table (sym c.is_kept.ensures ∙ c.if-not-is_kept.false)
+admits-requires c = kept_counts c.args.table.now (well c.args.table.now (sym c.well_kept.ensures.answer ∙ c.in_ok-well_kept.was))
+
+pub returns-in_err-admits : goal.returns-in_err-admits
+unfolding add_to
+returns-in_err-admits c =
+    let a = c.args in
+    let t = a.table.now in
+    let k = well t (sym c.well_kept.ensures.answer ∙ c.in_ok-well_kept.was) in
+    let why = stands (first_of (admit_objections t a.request t.next)) (sym c.admits.ensures ∙ c.in_err-admits.was) in
+    rw (past_kept t k (call.add a.request a.events a.now) ∙ ap first_of (add_same t c.well_kept.ensures.long k a.request a.events a.now) ∙ why, add_to) (search rules)
 
 pub opened_up-requires : goal.opened_up-requires
 opened_up-requires c =
     let a = c.args in
-    let k = sym c.is_kept.ensures ∙ c.if-not-is_kept.false in
-    let r = room_left a.table a.request a.table.next k (verdict_clear (first_of (admit_objections a.table a.request a.table.next)) (sym c.in-Clear.is ∙ c.admits.ensures)) in
+    let t = a.table.now in
+    let k = well t (sym c.well_kept.ensures.answer ∙ c.in_ok-well_kept.was) in
+    let r = room_left t a.request t.next k (clear (first_of (admit_objections t a.request t.next)) (sym c.admits.ensures ∙ c.in_ok-admits.was)) in
     omega arith
 
-pub returns-in-Refuse : goal.returns-in-Refuse
+pub returns : goal.returns
 unfolding add_to
-returns-in-Refuse c =
+returns c =
     let a = c.args in
-    let k = sym c.is_kept.ensures ∙ c.if-not-is_kept.false in
-    let why = verdict_why (first_of (admit_objections a.table a.request a.table.next)) _ (sym c.in-Refuse.is ∙ c.admits.ensures) in
-    rw (past_kept a.table k (call.add a.request a.events a.now) ∙ ap first_of (add_same a.table (search rules) k a.request a.events a.now) ∙ why, add_to) c.not_admitted-in-Refuse.ensures
-
-pub returns-in-Clear : goal.returns-in-Clear
-unfolding add_to
-returns-in-Clear c =
-    let a = c.args in
-    let k = sym c.is_kept.ensures ∙ c.if-not-is_kept.false in
-    let clear = verdict_clear (first_of (admit_objections a.table a.request a.table.next)) (sym c.in-Clear.is ∙ c.admits.ensures) in
-    let m : c.value-mark.result ≡ watermark_of a.table.log = c.value-mark.ensures ∙ ap mark_value (c.watermark.ensures ∙ mark_answer a.table.log (kept_log a.table k)) in
-    rw (past_kept a.table k (call.add a.request a.events a.now) ∙ ap first_of (add_same a.table (search rules) k a.request a.events a.now) ∙ clear, add_to)
-    (rw (← m, ← c.primed-x.ensures, ← c.opened_up.ensures, ← c.next_id.ensures, ← c.with_next.ensures))
+    let t = a.table.now in
+    let k = well t (sym c.well_kept.ensures.answer ∙ c.in_ok-well_kept.was) in
+    let none = clear (first_of (admit_objections t a.request t.next)) (sym c.admits.ensures ∙ c.in_ok-admits.was) in
+    let m : c.value-mark.result ≡ watermark_of t.log = c.value-mark.ensures ∙ ap mark_value (c.watermark.ensures ∙ mark_answer t.log (kept_log t k)) in
+    rw (past_kept t k (call.add a.request a.events a.now) ∙ ap first_of (add_same t c.well_kept.ensures.long k a.request a.events a.now) ∙ none, add_to) (search rules)

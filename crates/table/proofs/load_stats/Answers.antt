@@ -1,32 +1,28 @@
--- `load_stats` meets its contract: refused with 7 or served by a count.
+-- `load_stats` meets its contract: refused with 7, or the counts.
 -- Assumes nothing.
 use Rattle.std.proofs.Common.{sym, ◌∙◌, rules}
 use Rattle.places.specs.Calls.{load_of}
 use Rattle.places.specs.Views.{view}
 use Rattle.rules.specs.Calls as call
-use Rattle.places.proofs.Refusing.{kept_counts, no_refusal, unkept}
 use Rattle.rules.proofs.Clauses.{statistics_objects}
+use Rattle.table.proofs.Standing.{unwell, counts, unrefused}
 use Rattle.table.proofs.load_stats.Goals as goal
 
-pub returns-then-not-is_kept : goal.returns-then-not-is_kept
+pub returns-in_err-well_kept : goal.returns-in_err-well_kept
 unfolding load_of
-returns-then-not-is_kept c =
+returns-in_err-well_kept c =
     let a = c.args in
-    rw (unkept a.table (sym c.is_kept.ensures ∙ c.if-not-is_kept.true) (call.statistics a.fabric), load_of)
+    rw (unwell a.table.now (sym c.well_kept.ensures.answer ∙ c.in_err-well_kept.was) (call.statistics a.fabric), load_of) (search rules)
 
 pub overflow_add-result : goal.overflow_add-result
 overflow_add-result c =
-    let b = kept_counts c.args.table (sym c.is_kept.ensures ∙ c.if-not-is_kept.false) in
-    search rules
-
-pub of_fabric-requires : goal.of_fabric-requires
-of_fabric-requires c =
-    let b = kept_counts c.args.table (sym c.is_kept.ensures ∙ c.if-not-is_kept.false) in
+    let b = counts c.args.table.now (sym c.well_kept.ensures.answer ∙ c.in_ok-well_kept.was) in
     search rules
 
 pub returns : goal.returns
 unfolding load_of
 returns c =
     let a = c.args in
-    let k = sym c.is_kept.ensures ∙ c.if-not-is_kept.false in
-    rw (no_refusal a.table k (call.statistics a.fabric) (statistics_objects (view a.table) a.fabric), ← c.of_fabric.ensures, ← c.less_one.ensures, load_of)
+    let t = a.table.now in
+    let e = sym c.well_kept.ensures.answer ∙ c.in_ok-well_kept.was in
+    rw (unrefused t e (call.statistics a.fabric) (statistics_objects (view t) a.fabric), ← c.of_fabric.ensures, c.saturating_sub.ensures, load_of)

@@ -1,25 +1,22 @@
--- `purge_reported_changes` meets its contract: refused with 7, or what `purged` ensures.
+-- `purge_reported_changes` meets its contract: refused with 7, or `purged`.
 -- Assumes nothing.
-use Rattle.std.proofs.Common.{sym, ◌∙◌, arith}
+use Rattle.std.proofs.Common.{sym, ◌∙◌, rules}
 use Rattle.places.specs.Calls.{purge_in}
 use Rattle.places.specs.Views.{view}
 use Rattle.rules.specs.Calls as call
-use Rattle.places.proofs.Refusing.{kept_counts, no_refusal, unkept}
 use Rattle.rules.proofs.Clauses.{purge_objects}
+use Rattle.table.proofs.Standing.{unwell, unrefused}
 use Rattle.table.proofs.purge_reported_changes.Goals as goal
 
-pub returns-then-not-is_kept : goal.returns-then-not-is_kept
+pub returns-in_err-well_kept : goal.returns-in_err-well_kept
 unfolding purge_in
-returns-then-not-is_kept c =
-    rw (unkept c.args.table (sym c.is_kept.ensures ∙ c.if-not-is_kept.true) call.purge, purge_in)
-
-pub purged-requires : goal.purged-requires
-purged-requires c =
-    let b = kept_counts c.args.table (sym c.is_kept.ensures ∙ c.if-not-is_kept.false) in
-    omega arith
+returns-in_err-well_kept c =
+    let a = c.args in
+    rw (unwell a.table.now (sym c.well_kept.ensures.answer ∙ c.in_err-well_kept.was) call.purge, purge_in) (search rules)
 
 pub returns : goal.returns
 unfolding purge_in
 returns c =
-    let t = c.args.table in
-    rw (no_refusal t (sym c.is_kept.ensures ∙ c.if-not-is_kept.false) call.purge (purge_objects (view t)), ← c.purged.ensures, purge_in)
+    let t = c.args.table.now in
+    let e = sym c.well_kept.ensures.answer ∙ c.in_ok-well_kept.was in
+    rw (unrefused t e call.purge (purge_objects (view t)), ← c.purged.ensures, purge_in)

@@ -1,50 +1,50 @@
 -- `remove` meets its contract: the tests are the objections, in their order; scans tell what is removed and cancelled.
 -- Assumes nothing.
-use Rattle.std.proofs.Common.{◌||◌, [], sym, ap, ◌∙◌, arith, rules}
+use Rattle.std.proofs.Common.{[], sym, ◌∙◌, arith, rules}
 use Rattle.refusal.specs.declared.Refusal.TheVariants.{BadArgument}
 use Rattle.places.specs.Calls.{remove_in}
+use Rattle.places.specs.Moves.{swept_out}
 use Rattle.places.specs.Views.{view}
-use Rattle.rules.specs.Machine.{first_of}
 use Rattle.choices.specs.Choices.{chosen}
 use Rattle.rules.specs.Calls as call
-use Rattle.places.proofs.Refusing.{kept_counts, past_kept, unkept}
-use Rattle.places.proofs.Finding.{stored_there}
 use Rattle.rules.proofs.Clauses.{remove_objects, first_holds, first_passed, first_none}
+use Rattle.table.proofs.Standing.{unwell, counts, refused}
+use Rattle.table.proofs.Asked.{asked}
 use Rattle.table.proofs.remove.Goals as goal
 
-pub returns-then-not-is_kept : goal.returns-then-not-is_kept
+pub returns-in_err-well_kept : goal.returns-in_err-well_kept
 unfolding remove_in
-returns-then-not-is_kept c =
+returns-in_err-well_kept c =
     let a = c.args in
-    rw (unkept a.table (sym c.is_kept.ensures ∙ c.if-not-is_kept.true) (call.remove a.choice a.reason), remove_in) c.not_woken.ensures
+    rw (unwell a.table.now (sym c.well_kept.ensures.answer ∙ c.in_err-well_kept.was) (call.remove a.choice a.reason), remove_in) (search rules)
 
 pub returns-then-is_bad_reason : goal.returns-then-is_bad_reason
 unfolding remove_in
 returns-then-is_bad_reason c =
     let a = c.args in
-    let k = sym c.is_kept.ensures ∙ c.if-not-is_kept.false in
-    rw (past_kept a.table k (call.remove a.choice a.reason) ∙ ap first_of (remove_objects (view a.table) a.choice a.reason) ∙ first_holds BadArgument [] (sym c.is_bad_reason.ensures ∙ c.if-is_bad_reason.true), remove_in) c.not_woken-then-is_bad_reason.ensures
-
-pub cancels-cancels-requires : goal.cancels-cancels-requires
-cancels-cancels-requires c =
-    let b = kept_counts c.args.table (sym c.is_kept.ensures ∙ c.if-not-is_kept.false) in
-    omega arith
-
-pub find_stored-requires : goal.find_stored-requires
-find_stored-requires c =
-    let b = kept_counts c.args.table (sym c.is_kept.ensures ∙ c.if-not-is_kept.false) in
-    omega arith
+    let t = a.table.now in
+    let e = sym c.well_kept.ensures.answer ∙ c.in_ok-well_kept.was in
+    rw (refused t e (call.remove a.choice a.reason) (remove_objects (view t) a.choice a.reason) ∙ first_holds BadArgument [] (sym c.is_bad_reason.ensures ∙ c.if-is_bad_reason.true), remove_in)
 
 pub swept-requires : goal.swept-requires
 swept-requires c =
-    let b = kept_counts c.args.table (sym c.is_kept.ensures ∙ c.if-not-is_kept.false) in
-    omega arith
+    let b = counts c.args.table.now (sym c.well_kept.ensures.answer ∙ c.in_ok-well_kept.was) in
+    (omega arith, c.well_kept.ensures.long)
 
-pub returns : goal.returns
-unfolding remove_in
-returns c =
+pub returns-then-removes : goal.returns-then-removes
+unfolding remove_in swept_out
+returns-then-removes c =
     let a = c.args in
-    let k = sym c.is_kept.ensures ∙ c.if-not-is_kept.false in
-    let b = kept_counts a.table k in
-    let found = c.either-wakes.ensures ∙ ap (λ b. b || c.cancels-cancels.result) (stored_there a.table (search rules) (omega arith) (chosen a.choice) c.find_stored.ensures) in
-    rw (past_kept a.table k (call.remove a.choice a.reason) ∙ ap first_of (remove_objects (view a.table) a.choice a.reason) ∙ first_passed BadArgument [] (sym c.is_bad_reason.ensures ∙ c.if-is_bad_reason.false) ∙ first_none, ← c.cancels-cancels.ensures, ← found, ← c.swept.ensures, ← c.reason_after.ensures, ← c.with_cancel.ensures, remove_in)
+    let t = a.table.now in
+    let e = sym c.well_kept.ensures.answer ∙ c.in_ok-well_kept.was in
+    rw (refused t e (call.remove a.choice a.reason) (remove_objects (view t) a.choice a.reason) ∙ first_passed BadArgument [] (sym c.is_bad_reason.ensures ∙ c.if-is_bad_reason.false) ∙ first_none, ← c.cancels-cancels.ensures, ← asked (chosen a.choice) c.stored.ensures.are c.any_chosen-removes.ensures, remove_in)
+    (rw (c.reason_after-table.ensures, c.swept.ensures, c.if-removes.true))
+
+pub returns-else-removes : goal.returns-else-removes
+unfolding remove_in swept_out
+returns-else-removes c =
+    let a = c.args in
+    let t = a.table.now in
+    let e = sym c.well_kept.ensures.answer ∙ c.in_ok-well_kept.was in
+    rw (refused t e (call.remove a.choice a.reason) (remove_objects (view t) a.choice a.reason) ∙ first_passed BadArgument [] (sym c.is_bad_reason.ensures ∙ c.if-is_bad_reason.false) ∙ first_none, ← c.cancels-cancels.ensures, ← asked (chosen a.choice) c.stored.ensures.are c.any_chosen-removes.ensures, remove_in)
+    (rw (c.reason_after-table.ensures, c.swept.ensures, c.if-removes.false))

@@ -1,46 +1,41 @@
--- `report` meets its contract: refused with 7, refused with 3 where the scan of the open ones finds a report, or `hand_out`'s.
+-- `report` meets its contract: refused with 7, refused with 3 where a report is open, or `hand_out`'s.
 -- Assumes nothing.
-use Rattle.std.proofs.Common.{[], sym, ap, ◌∙◌, arith, le-ltb, lt-ltb, rules}
+use Rattle.std.proofs.Common.{[], sym, ◌∙◌, rules}
 use Rattle.refusal.specs.declared.Refusal.TheVariants.{ReportOpen}
 use Rattle.places.specs.Calls.{report_in}
 use Rattle.places.specs.Views.{view}
-use Rattle.rules.specs.Machine.{first_of}
 use Rattle.rules.specs.States.{is_report}
 use Rattle.rules.specs.Calls as call
-use Rattle.places.proofs.Refusing.{kept_counts, kept_log, past_kept, unkept}
-use Rattle.places.proofs.Finding.{open_there}
+use Rattle.places.proofs.Refusing.{kept_log}
 use Rattle.rules.proofs.Clauses.{report_objects, report_open_is, first_holds, first_passed, first_none}
+use Rattle.table.proofs.Standing.{well, unwell, counts, refused}
+use Rattle.table.proofs.Asked.{asked}
 use Rattle.table.proofs.report.Goals as goal
 
-pub returns-then-not-is_kept : goal.returns-then-not-is_kept
+pub returns-in_err-well_kept : goal.returns-in_err-well_kept
 unfolding report_in
-returns-then-not-is_kept c =
-    rw (unkept c.args.table (sym c.is_kept.ensures ∙ c.if-not-is_kept.true) (call.report c.args.at), report_in) c.not_reported.ensures
+returns-in_err-well_kept c =
+    let a = c.args in
+    rw (unwell a.table.now (sym c.well_kept.ensures.answer ∙ c.in_err-well_kept.was) (call.report a.at), report_in) (search rules)
 
-pub find_open-requires : goal.find_open-requires
-find_open-requires c =
-    let b = kept_counts c.args.table (sym c.is_kept.ensures ∙ c.if-not-is_kept.false) in
-    omega arith
-
-pub returns-then-find_open-lt80 : goal.returns-then-find_open-lt80
+pub returns-then-any_report : goal.returns-then-any_report
 unfolding report_in
-returns-then-find_open-lt80 c =
-    let t = c.args.table in
-    let k = sym c.is_kept.ensures ∙ c.if-not-is_kept.false in
-    let b = kept_counts t k in
-    let there = report_open_is (view t) ∙ sym (open_there t (search rules) (omega arith) is_report c.find_open.ensures) ∙ lt-ltb _ _ c.if-find_open-lt80.true in
-    rw (past_kept t k (call.report c.args.at) ∙ ap first_of (report_objects (view t) c.args.at) ∙ first_holds ReportOpen [] there, report_in) c.not_reported-then-find_open-lt80.ensures
+returns-then-any_report c =
+    let t = c.args.table.now in
+    let e = sym c.well_kept.ensures.answer ∙ c.in_ok-well_kept.was in
+    let there = report_open_is (view t) ∙ sym (asked is_report c.open.ensures c.any_report.ensures) ∙ c.if-any_report.true in
+    rw (refused t e (call.report c.args.at) (report_objects (view t) c.args.at) ∙ first_holds ReportOpen [] there, report_in)
 
 pub hand_out-requires : goal.hand_out-requires
 hand_out-requires c =
-    let k = sym c.is_kept.ensures ∙ c.if-not-is_kept.false in
-    (kept_counts c.args.table k, kept_log c.args.table k)
+    let t = c.args.table.now in
+    let e = sym c.well_kept.ensures.answer ∙ c.in_ok-well_kept.was in
+    record { counts = counts t e; long = c.well_kept.ensures.long; log = kept_log t (well t e) }
 
 pub returns : goal.returns
 unfolding report_in
 returns c =
-    let t = c.args.table in
-    let k = sym c.is_kept.ensures ∙ c.if-not-is_kept.false in
-    let b = kept_counts t k in
-    let none = report_open_is (view t) ∙ sym (open_there t (search rules) (omega arith) is_report c.find_open.ensures) ∙ le-ltb _ _ c.if-find_open-lt80.false in
-    rw (past_kept t k (call.report c.args.at) ∙ ap first_of (report_objects (view t) c.args.at) ∙ first_passed ReportOpen [] none ∙ first_none, report_in) c.hand_out.ensures
+    let t = c.args.table.now in
+    let e = sym c.well_kept.ensures.answer ∙ c.in_ok-well_kept.was in
+    let none = report_open_is (view t) ∙ sym (asked is_report c.open.ensures c.any_report.ensures) ∙ c.if-any_report.false in
+    rw (refused t e (call.report c.args.at) (report_objects (view t) c.args.at) ∙ first_passed ReportOpen [] none ∙ first_none, report_in) c.hand_out.ensures

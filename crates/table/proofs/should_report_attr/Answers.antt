@@ -1,56 +1,54 @@
 -- `should_report_attr` meets its contract: the tests are the objections, in their order, and the scan finds the open one.
 -- Assumes nothing.
-use Rattle.std.proofs.Common.{[], sym, ap, ◌∙◌, arith, rules}
+use Rattle.std.proofs.Common.{[], ◌-◌, not, sym, ap, ◌∙◌, rules, get_or-drop}
 use Rattle.refusal.specs.declared.Refusal.TheVariants.{NotOpen}
 use Rattle.places.specs.Calls.{open_at, attribute_at}
-use Rattle.places.specs.Views.{view}
-use Rattle.rules.specs.Machine.{first_of}
+use Rattle.places.specs.Views.{view, opens_of}
+use Rattle.lists.specs.Search.{first}
 use Rattle.rules.specs.States.{has_id}
+use Rattle.subscription.specs.Life.{blank}
 use Rattle.rules.specs.Calls as call
-use Rattle.places.proofs.Refusing.{kept_counts, kept_log, past_kept, unkept}
-use Rattle.changes.proofs.Answering.{path_answer}
-use Rattle.places.proofs.Finding.{none_open, one_open}
 use Rattle.rules.proofs.Clauses.{attribute_objects, first_holds, first_passed, first_none}
+use Rattle.table.proofs.Standing.{unwell, refused, some_of, none_of}
+use Rattle.table.proofs.Asked.{found, not_found}
+use Rattle.places.proofs.Refusing.{kept_log}
+use Rattle.changes.proofs.Answering.{path_answer}
+use Rattle.table.proofs.Standing.{well}
 use Rattle.table.proofs.should_report_attr.Goals as goal
 
-pub returns-then-not-is_kept : goal.returns-then-not-is_kept
+pub returns-in_err-well_kept : goal.returns-in_err-well_kept
 unfolding attribute_at
-returns-then-not-is_kept c =
+returns-in_err-well_kept c =
     let a = c.args in
-    rw (unkept c.args.table (sym c.is_kept.ensures ∙ c.if-not-is_kept.true) (call.attribute a.id a.endpoint a.cluster a.attr), attribute_at)
+    rw (unwell a.table.now (sym c.well_kept.ensures.answer ∙ c.in_err-well_kept.was) (call.attribute a.id a.endpoint a.cluster a.attr), attribute_at) (search rules)
 
-pub find_open-at-requires : goal.find_open-at-requires
-find_open-at-requires c =
-    let b = kept_counts c.args.table (sym c.is_kept.ensures ∙ c.if-not-is_kept.false) in
-    omega arith
-
-pub returns-then-at-ge80 : goal.returns-then-at-ge80
+pub returns-in_err-x : goal.returns-in_err-x
 unfolding attribute_at
-returns-then-at-ge80 c =
+returns-in_err-x c =
     let a = c.args in
-    let t = c.args.table in
-    let k = sym c.is_kept.ensures ∙ c.if-not-is_kept.false in
-    let b = kept_counts t k in
-    let none = none_open t (search rules) (omega arith) (has_id a.id) c.find_open-at.ensures c.if-at-ge80.true in
-    rw (past_kept t k (call.attribute a.id a.endpoint a.cluster a.attr) ∙ ap first_of (attribute_objects (view t) a.id a.endpoint a.cluster a.attr) ∙ first_holds NotOpen [] none, attribute_at)
+    let t = a.table.now in
+    let e = sym c.well_kept.ensures.answer ∙ c.in_ok-well_kept.was in
+    let none = none_of c.one_with_id.result NotOpen (sym c.ok_or.ensures.value ∙ c.in_err-x.was) in
+    let why = none.1 in
+    rw (refused t e (call.attribute a.id a.endpoint a.cluster a.attr) (attribute_objects (view t) a.id a.endpoint a.cluster a.attr) ∙ first_holds NotOpen [] (ap not (not_found (has_id a.id) c.open.ensures c.one_with_id.ensures none.0)), attribute_at) (search rules)
 
 pub returns-then-is_never : goal.returns-then-is_never
 unfolding attribute_at open_at
 returns-then-is_never c =
     let a = c.args in
-    let t = c.args.table in
-    let k = sym c.is_kept.ensures ∙ c.if-not-is_kept.false in
-    let b = kept_counts t k in
-    let there = one_open t (search rules) (omega arith) (has_id a.id) c.find_open-at.ensures c.if-at-ge80.false in
-    rw (past_kept t k (call.attribute a.id a.endpoint a.cluster a.attr) ∙ ap first_of (attribute_objects (view t) a.id a.endpoint a.cluster a.attr) ∙ first_passed NotOpen [] there ∙ first_none, ← c.find_open-at.ensures, ← c.one_at-x.ensures, sym c.is_never.ensures ∙ c.if-is_never.true, attribute_at)
+    let t = a.table.now in
+    let e = sym c.well_kept.ensures.answer ∙ c.in_ok-well_kept.was in
+    let one = found (has_id a.id) c.open.ensures blank c.one_with_id.ensures (some_of c.one_with_id.result NotOpen (sym c.ok_or.ensures.value ∙ c.in_ok-x.was)) in
+    let x = one.1 ∙ get_or-drop (80 - t.opens) t.places (first (has_id a.id) (opens_of t)) blank in
+    rw (refused t e (call.attribute a.id a.endpoint a.cluster a.attr) (attribute_objects (view t) a.id a.endpoint a.cluster a.attr) ∙ first_passed NotOpen [] (ap not one.0) ∙ first_none, ← x, sym c.is_never.ensures ∙ c.if-is_never.true, attribute_at)
 
 pub returns : goal.returns
 unfolding attribute_at open_at
 returns c =
     let a = c.args in
-    let t = c.args.table in
-    let k = sym c.is_kept.ensures ∙ c.if-not-is_kept.false in
-    let b = kept_counts t k in
-    let there = one_open t (search rules) (omega arith) (has_id a.id) c.find_open-at.ensures c.if-at-ge80.false in
-    rw (past_kept t k (call.attribute a.id a.endpoint a.cluster a.attr) ∙ ap first_of (attribute_objects (view t) a.id a.endpoint a.cluster a.attr) ∙ first_passed NotOpen [] there ∙ first_none, ← c.find_open-at.ensures, ← c.one_at-x.ensures, sym c.is_never.ensures ∙ c.if-is_never.false, attribute_at)
-    (c.contains_since.ensures ∙ path_answer t.log (kept_log t k) a.endpoint a.cluster a.attr _)
+    let t = a.table.now in
+    let e = sym c.well_kept.ensures.answer ∙ c.in_ok-well_kept.was in
+    let one = found (has_id a.id) c.open.ensures blank c.one_with_id.ensures (some_of c.one_with_id.result NotOpen (sym c.ok_or.ensures.value ∙ c.in_ok-x.was)) in
+    let x = one.1 ∙ get_or-drop (80 - t.opens) t.places (first (has_id a.id) (opens_of t)) blank in
+    rw (refused t e (call.attribute a.id a.endpoint a.cluster a.attr) (attribute_objects (view t) a.id a.endpoint a.cluster a.attr) ∙ first_passed NotOpen [] (ap not one.0) ∙ first_none, ← x, sym c.is_never.ensures ∙ c.if-is_never.false, attribute_at)
+    (c.contains_since.ensures ∙ path_answer t.log (kept_log t (well t e)) a.endpoint a.cluster a.attr _)

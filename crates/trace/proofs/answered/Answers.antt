@@ -1,28 +1,20 @@
--- `answered` is safe and ends: each run takes a byte at least and stays within the chunk and the buffer.
+-- `answered` is safe and ends: each run takes a byte at least and stays within what is left and within the buffer.
 -- Assumes nothing.
-use Rattle.std.proofs.Common.{◌≤◌, length, sym, arith}
-use Rattle.printing.specs.Answers.{answer_room}
-use Rattle.trace.proofs.Fitting.{wrote_fits, wrote_length, used_fits, used_some}
+use Rattle.std.proofs.Common.{sym, arith}
+use Rattle.trace.proofs.Fitting.{wrote_fits, out_long, wrote_length, used_fits, gets_on}
 use Rattle.trace.proofs.answered.Goals as goal
 
 pub slice_bounds-out-end : goal.slice_bounds-out-end
-slice_bounds-out-end g c = omega (arith, wrote_fits _ _ c.args.s.now _ _ _ _ _ c.run-r.ensures)
+slice_bounds-out-end g c = omega (arith, wrote_fits _ _ _ _ _ _ _ _ c.run-r.ensures, out_long _ _ _ _ _ _ _ _ c.run-r.ensures)
 
 pub slice_bounds-write_all-end : goal.slice_bounds-write_all-end
-slice_bounds-write_all-end g c = sym (wrote_length _ _ c.args.s.now _ _ _ _ _ c.run-r.ensures)
+slice_bounds-write_all-end g c = sym (wrote_length _ _ _ _ _ _ _ _ c.run-r.ensures)
 
-pub overflow_add-at : goal.overflow_add-at
-overflow_add-at g c = omega (arith, used_fits _ _ c.args.s.now _ _ _ _ _ c.run-r.ensures c.loop-at.invariant.0)
+pub slice_bounds-rest-count : goal.slice_bounds-rest-count
+slice_bounds-rest-count g c = used_fits _ _ _ _ _ _ _ _ c.run-r.ensures
 
-pub loop-at-smaller : goal.loop-at-smaller
-loop-at-smaller g c =
-    let room : answer_room ≤ length c.loop-at.out = omega (arith, c.loop-at.invariant.1) in
-    omega (
-      arith,
-      used_fits _ _ c.args.s.now _ _ _ _ _ c.run-r.ensures c.loop-at.invariant.0,
-      used_some _ _ c.args.s.now _ _ _ _ _ c.run-r.ensures c.loop-at-test.true room,
-    )
+pub slice_bounds-rest-start : goal.slice_bounds-rest-start
+slice_bounds-rest-start g c = used_fits _ _ _ _ _ _ _ _ c.run-r.ensures
 
-pub loop-at-preserved : goal.loop-at-preserved
-loop-at-preserved g c =
-    (used_fits _ _ c.args.s.now _ _ _ _ _ c.run-r.ensures c.loop-at.invariant.0, omega (arith, c.loop-at.invariant.1))
+pub loop-rest-smaller : goal.loop-rest-smaller
+loop-rest-smaller g c = gets_on _ _ _ _ _ _ _ _ c.run-r.ensures (sym c.loop-rest-test.ensures) (omega (arith, c.loop-rest.invariant))

@@ -8,12 +8,9 @@ pub returns-then-not-ends : goal.returns-then-not-ends
 returns-then-not-ends c =
     finish_none _ _ _ _ c.close-t.ensures (sym c.ends.ensures ∙ c.if-not-ends.true)
 
-pub shape_of-out : goal.shape_of-out
-shape_of-out c = c.put_answer.auto.out
-
 pub returns : goal.returns
 returns c =
     finish_answered _ _ _ _ c.close-t.ensures (sym c.ends.ensures ∙ c.if-not-ends.false) _ _ _ _
     c.line_in.ensures
-    c.answer-a.ensures
-    c.put_answer.ensures
+    c.answer-said.ensures
+    (rw (c.code.ensures, c.value.ensures) at c.put_answer.ensures)

@@ -2,15 +2,14 @@
 -- Scanning.
 -- Assumes nothing.
 use mathlib.Core.Bool.{true}
-use mathlib.Core.Path.{◌≡◌, refl, sym, ap, ◌∙◌}
+use mathlib.Core.Path.{◌≡◌, sym, ap, ◌∙◌}
 use Prim.Native.Nat.{◌+◌, ◌≤◌}
 use native.Mathlib.Omega.{arith}
 use lib.Dec.{leb}
 use lib.ListN.{length, drop_of_length-le}
-use borrow.Author.Rules.{rules}
 use Rattle.printing.specs.Answers.{answer_room}
 use Rattle.tracing.specs.Runs.{run_from}
-use Rattle.tracing.proofs.Scanning.{stopped_at, run_full, run_done, turn_within, turn_moves, turn_none, turn_answered}
+use Rattle.tracing.proofs.Scanning.{run_full, run_done, turn_within, turn_moves, turn_none, turn_answered}
 use Rattle.tracing.proofs.run.Goals as goal
 use Rattle.tracing.proofs.run.Goals.{After-scan-k}
 
@@ -23,36 +22,18 @@ within : (c : After-scan-k) →
     c.loop-used.used + c.scan-k.result.used ≤ length c.args.s.now
 within c = turn_within _ _ _ c.args.s.now _ _ c.scan-k.ensures c.loop-used.invariant.1.0
 
-pub loop-used-init : goal.loop-used-init
-loop-used-init c = (refl, (search rules, refl, refl))
-
-pub shape_of-held-then-not-has_room : goal.shape_of-held-then-not-has_room
-shape_of-held-then-not-has_room c = c.loop-used.invariant.1.1
-
-pub shape_of-out-then-not-has_room : goal.shape_of-out-then-not-has_room
-shape_of-out-then-not-has_room c = c.loop-used.invariant.1.2
-
 pub returns-then-not-has_room : goal.returns-then-not-has_room
 returns-then-not-has_room c =
     let k = c.loop-used in
-    stopped_at c.stopped.ensures ∙ sym (k.invariant.0 ∙ run_full _ _ (sym c.has_room.ensures ∙ c.if-not-has_room.true))
+    sym (k.invariant.0 ∙ run_full _ _ (sym c.has_room.ensures ∙ c.if-not-has_room.true))
 
 pub overflow_add-used : goal.overflow_add-used
 overflow_add-used c = omega (arith, within (goal.at.overflow_add-used c).After-scan-k)
 
-pub shape_of-held-then-not-ends : goal.shape_of-held-then-not-ends
-shape_of-held-then-not-ends c =
-    c.scan-k.auto.held ∙ c.loop-used.invariant.1.1
-
-pub shape_of-out-then-not-ends : goal.shape_of-out-then-not-ends
-shape_of-out-then-not-ends c =
-    c.loop-used.invariant.1.2
-
 pub returns-then-not-ends : goal.returns-then-not-ends
 returns-then-not-ends c =
     let k = c.loop-used in
-    stopped_at c.stopped-then-not-ends.ensures
-    ∙ sym (k.invariant.0 ∙ turn_none _ _ _ _ _ _ _ _ _ c.scan-k.ensures (room (goal.at.returns-then-not-ends c).After-scan-k) k.invariant.1.0 (sym c.ends.ensures ∙ c.if-not-ends.true))
+    sym (k.invariant.0 ∙ turn_none _ _ _ _ _ _ _ _ _ c.scan-k.ensures (room (goal.at.returns-then-not-ends c).After-scan-k) k.invariant.1.0 (sym c.ends.ensures ∙ c.if-not-ends.true))
 
 pub loop-used-smaller : goal.loop-used-smaller
 loop-used-smaller c =
@@ -64,17 +45,11 @@ loop-used-preserved c =
       k.invariant.0
           ∙ turn_answered _ _ _ _ _ _ _ _ _ c.scan-k.ensures (room (goal.at.loop-used-preserved c).After-scan-k) (sym c.ends.ensures ∙ c.if-not-ends.false) _ _ _ _
           c.line_in.ensures
-          c.answer-a.ensures
-          c.put_answer-wrote.ensures,
+          c.answer-said.ensures
+          (rw (c.code.ensures, c.value.ensures) at c.put_answer-wrote.ensures),
       (within (goal.at.loop-used-preserved c).After-scan-k, c.scan-k.auto.held ∙ k.invariant.1.1, c.put_answer-wrote.auto.out ∙ k.invariant.1.2),
     )
 
-pub shape_of-held : goal.shape_of-held
-shape_of-held c = c.loop-used.invariant.1.1
-
-pub shape_of-out : goal.shape_of-out
-shape_of-out c = c.loop-used.invariant.1.2
-
 pub returns : goal.returns
 returns c =
-    stopped_at c.stopped-2.ensures ∙ sym (c.loop-used.invariant.0 ∙ ap (run_from _) (drop_of_length-le _ c.loop-used-test.false) ∙ run_done _)
+    sym (c.loop-used.invariant.0 ∙ ap (run_from _) (drop_of_length-le _ c.loop-used-test.false) ∙ run_done _)

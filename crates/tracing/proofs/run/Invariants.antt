@@ -10,7 +10,7 @@ use Rattle.tracing.proofs.run.Given as goal
 
 abbrev pub invariant-loop-used : goal.invariant-loop-used
 invariant-loop-used l =
-    (run_from (standing l.initial.table l.initial.reading l.initial.held l.initial.out 0 0) l.s ≡ run_from (standing l.table l.reading l.held l.out l.used l.wrote) (drop l.used l.s))
+    (run_from (standing l.initial.session.table l.initial.session.reading l.initial.held l.initial.out 0 0) l.s ≡ run_from (standing l.session.table l.session.reading l.held l.out l.used l.wrote) (drop l.used l.s))
     × ((l.used ≤ length l.s) × (length l.held ≡ length l.initial.held) × (length l.out ≡ length l.initial.out))
 
 abbrev pub decreases-loop-used : goal.decreases-loop-used

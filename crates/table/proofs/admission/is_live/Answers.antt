@@ -1,17 +1,16 @@
--- `is_live` meets its contract: a scan stops within its region exactly where one has the id.
+-- `is_live` meets its contract: each slice tells whether one of it has the id.
 -- Assumes nothing.
-use Rattle.std.proofs.Common.{sym, ◌∙◌, arith, le-ltb, lt-ltb, rules}
+use Rattle.std.proofs.Common.{sym, ◌∙◌}
 use Rattle.rules.specs.States.{has_id}
-use Rattle.places.proofs.Finding.{stored_there, open_there}
+use Rattle.table.proofs.Asked.{asked}
 use Rattle.table.proofs.admission.is_live.Goals as goal
 
-pub returns-then-find_stored-table : goal.returns-then-find_stored-table
-returns-then-find_stored-table c =
-    let t = c.args.table in
-    rw (sym (stored_there t (search rules) (omega arith) (has_id c.args.id) c.find_stored.ensures) ∙ lt-ltb _ _ c.if-find_stored-table.true)
+pub returns-then-any_with_id : goal.returns-then-any_with_id
+returns-then-any_with_id c =
+    let here = asked (has_id c.args.id) c.stored.ensures.are c.any_with_id.ensures in
+    rw (sym here ∙ c.if-any_with_id.true) c.if-any_with_id.true
 
-pub returns : goal.returns
-returns c =
-    let t = c.args.table in
-    rw (sym (stored_there t (search rules) (omega arith) (has_id c.args.id) c.find_stored.ensures) ∙ le-ltb _ _ c.if-find_stored-table.false)
-    (open_there t (search rules) (omega arith) (has_id c.args.id) c.find_open.ensures)
+pub returns-else-any_with_id : goal.returns-else-any_with_id
+returns-else-any_with_id c =
+    let here = asked (has_id c.args.id) c.stored.ensures.are c.any_with_id.ensures in
+    rw (sym here ∙ c.if-any_with_id.false) (asked (has_id c.args.id) c.open.ensures c.any_with_id-else-any_with_id.ensures)

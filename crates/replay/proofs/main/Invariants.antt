@@ -1,6 +1,0 @@
--- `main` is safe and ends: the count of turns falls.
--- Assumes nothing.
-use Rattle.replay.proofs.main.Given as goal
-
-abbrev pub decreases-loop-turns : goal.decreases-loop-turns
-decreases-loop-turns l = l.turns

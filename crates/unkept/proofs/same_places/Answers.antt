@@ -1,9 +1,0 @@
--- `same_places` meets its contract: the lists are alike at every place passed, and in the end at all of them.
--- Assumes nothing.
-use Rattle.std.proofs.Common.{arith}
-use Rattle.subscription.specs.Life.{blank}
-use Rattle.unkept.proofs.Alike.{alike_all}
-use Rattle.unkept.proofs.same_places.Goals as goal
-
-pub returns : goal.returns
-returns c = λ h. alike_all blank c.loop-i.invariant (omega arith)
