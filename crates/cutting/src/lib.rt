@@ -89,15 +89,24 @@ pub fn step(r: Reading, held: &mut [u8], b: u8) -> Stepped
         return still(r);
     }
     match b {
-        b'\n' if r.cr => ended(r, ending(r)),
-        b'\n' => spoilt(r, false),
-        b'\r' if r.cr => spoilt(r, true),
-        b'\r' => waiting(r),
-        _ if !r.cr && r.len < held.len() => {
-            held[r.len] = b;
-            holding(r, r.len + 1)
+        b'\n' => {
+            if r.cr {
+                ended(r, ending(r))
+            } else {
+                spoilt(r, false)
+            }
         }
-        _ => spoilt(r, false),
+        b'\r' => { if r.cr { spoilt(r, true) } else { waiting(r) } }
+        _ => {
+            if r.cr {
+                return spoilt(r, false);
+            }
+            if r.len < held.len() {
+                held[r.len] = b;
+                return holding(r, r.len + 1);
+            }
+            spoilt(r, false)
+        }
     }
 }
 
@@ -169,23 +178,28 @@ fn fresh(most: u64, number: u64) -> Reading
     }
 }
 
-// The line is bad, whatever follows.
-fn spoilt(r: Reading, cr: bool) -> Stepped
+// The line is bad, whatever follows. Here and below a field is stored, and `step` asks by an `if` in its arms: with struct updates and
+// guards a byte of a line that is bad already took up to twice the time.
+fn spoilt(mut r: Reading, cr: bool) -> Stepped
     ensures { result ≡ still_of (spoilt_of r cr) }
 {
-    still(Reading { bad: true, cr, ..r })
+    r.bad = true;
+    r.cr = cr;
+    still(r)
 }
 
 // A CR that may begin the line's end.
-fn waiting(r: Reading) -> Stepped
+fn waiting(mut r: Reading) -> Stepped
     ensures { result ≡ still_of (waiting_of r) }
 {
-    still(Reading { cr: true, ..r })
+    r.cr = true;
+    still(r)
 }
 
 // The line with `len` bytes held.
-fn holding(r: Reading, len: usize) -> Stepped
+fn holding(mut r: Reading, len: usize) -> Stepped
     ensures { result ≡ still_of (holding_of r len) }
 {
-    still(Reading { len, ..r })
+    r.len = len;
+    still(r)
 }

@@ -3,6 +3,7 @@
 #![tactic(auto)]
 
 ghost use Rattle.std.specs.Prelude.{◌≡◌};
+ghost use Rattle.changes.specs.Logs.{logged, noted};
 ghost use Rattle.lent.specs.Lent.{lent_answer, lent, lent_note};
 
 use answers::{Entered, code, value};
@@ -32,5 +33,20 @@ impl From<Result<Entered, Refusal>> for LentAnswer {
 pub fn note_lent(log: &mut ChangedAttrs, endpoint: u16, cluster: u32, attr: u32) -> LentAnswer
     ensures { lent result log.new ≡ lent_note log.old endpoint cluster attr }
 {
-    LentAnswer::from(log.note(endpoint, cluster, attr))
+    let (answer, after) = note_by_value(*log, endpoint, cluster, attr);
+    *log = after;
+    LentAnswer::from(answer)
+}
+
+// The note on a log by value, as document 01 has it: what it is told, and the log after it.
+fn note_by_value(
+    mut log: ChangedAttrs,
+    endpoint: u16,
+    cluster: u32,
+    attr: u32,
+) -> (Result<Entered, Refusal>, ChangedAttrs)
+    ensures { logged result.0 result.1 ≡ noted log endpoint cluster attr }
+{
+    let answer = log.note(endpoint, cluster, attr);
+    (answer, log)
 }

@@ -1,4 +1,6 @@
 // Words and numbers as text in a lent buffer. Every buffer and every place is taken; what has no room is left out.
+ghost use Rattle.std.specs.Prelude.{◌≡◌, if◌then◌else◌, nat_lt};
+
 use printing::put_field;
 
 // Puts `word` into `out` at `at`, and answers the place after it.
@@ -26,6 +28,8 @@ pub(crate) fn put_numbers(
 }
 
 // The byte behind one of `count` things, where the next would be the one at `i`.
-pub(crate) fn behind(i: usize, count: usize, between: u8, end: u8) -> u8 {
+pub(crate) fn behind(i: usize, count: usize, between: u8, end: u8) -> u8
+    ensures { result ≡ (if nat_lt i count then between else end) }
+{
     if i < count { between } else { end }
 }
