@@ -4,8 +4,8 @@
 // other shape is `Bad`. What a line does is not said here, nor where it begins and ends.
 #![tactic(auto)]
 
-ghost use Rattle.std.specs.Prelude.{◌≡◌, take};
-ghost use Rattle.lines.specs.Lines.{begins, kind_of, word_of, widths_of, filled, line_of};
+ghost use Rattle.std.specs.Prelude.{◌≡◌, take, IfSome};
+ghost use Rattle.lines.specs.Lines.{begins, kind_of, word_of, widths_of, filled, made, line_of};
 ghost use Rattle.fields.specs.Rows.{Fit};
 
 use fields::{PLACES, read_fields};
@@ -86,17 +86,31 @@ pub const BITS32: u64 = 0xffff_ffff;
 pub const BITS64: u64 = 0xffff_ffff_ffff_ffff;
 
 // The line that all of `s` is.
-#[tactic(auto, unfolding(crate::specs::Lines::line_of))]
+#[tactic(auto, using(crate::proofs::Lines::fits), unfolding(crate::specs::Lines::line_of))]
 pub fn read_line(s: &[u8]) -> Line
     ensures { result ≡ line_of s.now }
 {
     let Some(kind) = kind_of(s) else {
         return Line::Bad;
     };
-    let Some(v) = read_fields(s, word_of(kind).len(), widths_of(kind)) else {
-        return Line::Bad;
-    };
-    line_with(kind, v)
+    // An arm for each kind, so that where its fields begin and how wide they are is written in the code: looked up by the kind, a short
+    // line took up to twice the time.
+    match kind {
+        Kind::New => line_of(kind, read_fields(s, 4, &[BITS8])),
+        Kind::Add => line_of(
+            kind,
+            read_fields(
+                s,
+                4,
+                &[BITS64, BITS8, BITS64, BITS16, BITS16, BITS64, BITS16],
+            ),
+        ),
+        Kind::Note => line_of(kind, read_fields(s, 5, &[BITS16, BITS32, BITS32])),
+        Kind::Report => line_of(kind, read_fields(s, 7, &[BITS64, BITS64, FLAG, FLAG])),
+        Kind::Done => line_of(kind, read_fields(s, 5, &[BITS32, BITS8])),
+        Kind::Attr => line_of(kind, read_fields(s, 5, &[BITS32, BITS16, BITS32, BITS32])),
+        Kind::Wake => line_of(kind, read_fields(s, 5, &[BITS64, FLAG])),
+    }
 }
 
 // The line whose bytes are the first `n` of a buffer, or all of it where there are no more.
@@ -135,18 +149,14 @@ fn word_of(kind: Kind) -> &'static [u8]
     }
 }
 
-// The widths of a kind's fields, in order.
-fn widths_of(kind: Kind) -> &'static [u64]
-    ensures { result.now ≡ widths_of kind }
+// The line of a kind, if its fields were all there.
+fn line_of(kind: Kind, numbers: Option<[u64; PLACES]>) -> Line
+    requires { IfSome numbers (Fit (widths_of kind)) }
+    ensures { result ≡ made kind numbers }
 {
-    match kind {
-        Kind::New => &[BITS8],
-        Kind::Add => &[BITS64, BITS8, BITS64, BITS16, BITS16, BITS64, BITS16],
-        Kind::Note => &[BITS16, BITS32, BITS32],
-        Kind::Report => &[BITS64, BITS64, FLAG, FLAG],
-        Kind::Done => &[BITS32, BITS8],
-        Kind::Attr => &[BITS32, BITS16, BITS32, BITS32],
-        Kind::Wake => &[BITS64, FLAG],
+    match numbers {
+        Some(v) => line_with(kind, v),
+        None => Line::Bad,
     }
 }
 
